@@ -1,0 +1,59 @@
+use denote.Ref.{now}
+use mathlib.Core.Path.{ap, _∙_}
+use Rattle.pool.proofs.Tested.{outcome-accepted, outcome-refused}
+use Rattle.capi.specs.Answers.{poolAnswer, givesLeft}
+use borrow.Author.Needs.{needs}
+use Rattle.capi.proofs.read_pool.swap_read_pool.Statement.{statement}
+use Rattle.capi.proofs.read_pool.swap_read_pool.Tie as tie
+use Rattle.capi.proofs.read_pool.swap_read_pool.Reads as reads
+use Rattle.capi.proofs.read_pool.swap_read_pool.Lts as lts
+use Rattle.capi.proofs.answer.Answer.accepted.Reads as accepted-reads
+use Rattle.capi.proofs.answer.Answer.refused.Reads as refused-reads
+use Rattle.pool.proofs.read_pool.Reads as read-pool-reads
+
+read-pool-requires : tie.Need-read-pool-requires
+read-pool-requires c κs = search needs
+
+enum-told : tie.Need-enum-told
+enum-told c = search needs
+
+cast-accepted : tie.Need-cast-accepted
+cast-accepted c = search needs
+
+cast-accepted-2 : tie.Need-cast-accepted-2
+cast-accepted-2 c = search needs
+
+accepted-requires : tie.Need-accepted-requires
+accepted-requires c κs = search needs
+
+enum-known-verdict : tie.Need-enum-known-verdict
+enum-known-verdict c = search needs
+
+refused-requires : tie.Need-refused-requires
+refused-requires c κs = search needs
+
+returns : tie.Need-returns
+returns c =
+    let r = c .before .before .before .before .before .before .before in
+    let o = outcome-accepted (c .before .before .before .before .before .enum-told .given .1) (r .read-pool .ensures .0) in
+    (c .accepted .ensures ∙ ap poolAnswer o, ap (λ x. givesLeft x (now (r .before .before .args .gives))) o)
+
+returns-2 : tie.Need-returns-2
+returns-2 c =
+    let r = c .before .before .before .before in
+    let o = outcome-refused (r .read-pool .result .pool) (c .before .before .verdict .given .1) (r .read-pool .ensures .0) in
+    (c .refused .ensures ∙ ap poolAnswer o, ap (λ x. givesLeft x (now (r .before .before .args .gives))) o)
+
+pub swap-read-pool-spec : {M : Type 1} → statement M
+swap-read-pool-spec =
+    tie.close
+    (tie.spec
+    read-pool-requires
+    enum-told
+    cast-accepted
+    cast-accepted-2
+    accepted-requires
+    enum-known-verdict
+    refused-requires
+    returns
+    returns-2)

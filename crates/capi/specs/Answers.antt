@@ -1,0 +1,22 @@
+-- What the calls answer to C: an outcome as four numbers.
+use mathlib.Core.List.{List}
+use Prim.Native.Nat.{ℕ}
+use Rattle.pool.specs.declared.value.Pool.{Pool}
+use Rattle.pool.specs.Refusals.{Outcome, accepted, refused}
+use Rattle.capi.specs.declared.answer.Answer.{Answer}
+
+abbrev pub acceptedWith : ℕ → ℕ → Answer
+acceptedWith first second = record { number = 0; at = 0; first = first; second = second }
+
+abbrev pub refusedWith : ℕ → ℕ → Answer
+refusedWith number at = record { number = number; at = at; first = 0; second = 0 }
+
+-- reading a pool: places and houses
+abbrev pub poolAnswer : Outcome Pool → Answer
+poolAnswer (accepted p) = acceptedWith (p .size) (p .altruists)
+poolAnswer (refused number at) = refusedWith number at
+
+-- the sets of an accepted pool; else what the memory held
+abbrev pub givesLeft : Outcome Pool → List ℕ → List ℕ
+givesLeft (accepted p) gives = p .gives
+givesLeft (refused number at) gives = gives

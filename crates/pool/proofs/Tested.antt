@@ -1,0 +1,78 @@
+-- Laws of tests made in order: where one passes and where one fails, and how a call goes by the outcome of another.
+use mathlib.Core.Bool.{Bool, true, false}
+use mathlib.Core.List.{List, [], _∷_}
+use mathlib.Core.Path.{_≡_, refl, sym, ap, _∙_}
+use Prim.Native.Nat.{ℕ}
+use native.Mathlib.Omega.{arith}
+use lib.Dec.{T}
+use Rattle.pool.specs.declared.refusal.Refusal.{Refusal}
+use Rattle.pool.specs.declared.refusal.Verdict.{Verdict}
+use Rattle.pool.specs.declared.refusal.Verdict.the-variants as verdict
+use Rattle.pool.specs.Lists.{Each, none, also}
+use Rattle.pool.specs.Refusals.{numberOf, Outcome, accepted, refused, outcomeOf, tested, andThen}
+use Rattle.pool.proofs.Tests.{from-true}
+use Rattle.pool.proofs.Each.{each-first}
+
+module _ {A : Type 0} (n : ℕ) (b : Bool) (ts : List (ℕ × Bool)) (at : ℕ) (rest : Outcome A) where
+  pub passes : T b → tested ((n, b) ∷ ts) at rest ≡ tested ts at rest
+  unfolding tested
+  passes t = go b t
+    where
+      go : (b : Bool) → T b → tested ((n, b) ∷ ts) at rest ≡ tested ts at rest
+      go true t = refl
+      go false t = absurd t
+
+  pub fails : (T b → ⊥) → tested ((n, b) ∷ ts) at rest ≡ refused n at
+  unfolding tested
+  fails f = go b f
+    where
+      go : (b : Bool) → (T b → ⊥) → tested ((n, b) ∷ ts) at rest ≡ refused n at
+      go true f = absurd (f tt)
+      go false f = refl
+
+-- accepting is not refusing
+pub not-both : {A : Type 0} {a : A} {n at : ℕ} → accepted a ≡ refused n at → ⊥
+not-both {a = a} {n = n} {at = at} e = let z : _≡_ {A = ℕ} 0 1 = cc in omega arith
+
+-- what follows the rest follows the tests
+pub tested-then : {A B : Type 0} (ts : List (ℕ × Bool)) (at : ℕ) (o : Outcome A) (f : A → Outcome B) → tested ts at (andThen o f) ≡ andThen (tested ts at o) f
+unfolding tested
+tested-then [] at o f = refl
+tested-then {A} {B} (t ∷ ts) at o f = go (t .1) (tested-then ts at o f)
+  where
+    go : (b : Bool) → tested ts at (andThen o f) ≡ andThen (tested ts at o) f
+        → _≡_ {A = Outcome B} (elim b [ true ↦ tested ts at (andThen o f) | false ↦ refused (t .0) at ])
+        (andThen (elim b as (λ _. Outcome A) [ true ↦ tested ts at o | false ↦ refused (t .0) at ]) f)
+    go true ih = ih
+    go false ih = refl
+
+-- where all tests passed, the outcome is that of the rest; a refusal stays, whatever the rest is
+module _ {A B : Type 0} (a : A) (ts : List (ℕ × Bool)) (at : ℕ) where
+  pub goes-on : {b : A} → tested ts at (accepted a) ≡ accepted b → (rest : Outcome B) → tested ts at rest ≡ rest
+  goes-on e rest = tested-then ts at (accepted a) (λ _. rest) ∙ ap (λ o. andThen o (λ _. rest)) e
+
+  pub stops : {n i : ℕ} → tested ts at (accepted a) ≡ refused n i → (rest : Outcome B) → tested ts at rest ≡ refused n i
+  stops e rest = tested-then ts at (accepted a) (λ _. rest) ∙ ap (λ o. andThen o (λ _. rest)) e
+
+-- where something was accepted, every test holds, and the rest accepted it
+pub all-held : {A : Type 0} {a : A} (ts : List (ℕ × Bool)) (at : ℕ) (o : Outcome A) → tested ts at o ≡ accepted a → Each (λ t. T (t .1)) ts × (o ≡ accepted a)
+unfolding tested
+all-held [] at o e = (none, e)
+all-held {A} {a} (t ∷ ts) at o e = go (t .1) refl e (all-held ts at o)
+  where
+    go : (b : Bool) → t .1 ≡ b → _≡_ {A = Outcome A} (elim b [ true ↦ tested ts at o | false ↦ refused (t .0) at ]) (accepted a)
+        → (tested ts at o ≡ accepted a → Each (λ t. T (t .1)) ts × (o ≡ accepted a)) → Each (λ t. T (t .1)) (t ∷ ts) × (o ≡ accepted a)
+    go true q e ih = let (hs, f) = ih e in (also {x = t} (from-true q) hs, f)
+    go false q e ih = absurd (not-both (sym e))
+
+-- the first of them
+pub held : {A : Type 0} (n : ℕ) (b : Bool) (ts : List (ℕ × Bool)) (at : ℕ) (a : A) {c : A} → tested ((n, b) ∷ ts) at (accepted a) ≡ accepted c → T b
+held n b ts at a e = each-first (all-held ((n, b) ∷ ts) at (accepted a) e .0)
+
+-- the outcome of a verdict that is known
+pub outcome-accepted : {A : Type 0} {v : Verdict} {a : A} {o : Outcome A} → v ≡ verdict.Accepted → outcomeOf v a ≡ o → accepted a ≡ o
+outcome-accepted {a = a} e f = sym (ap (λ (w : Verdict). outcomeOf w a) e) ∙ f
+
+pub outcome-refused : {A : Type 0} {v : Verdict} (a : A) {o : Outcome A} {r : Refusal} → v ≡ verdict.Refused r → outcomeOf v a ≡ o
+    → refused (numberOf (r .cause)) (r .at) ≡ o
+outcome-refused a e f = sym (ap (λ (w : Verdict). outcomeOf w a) e) ∙ f

@@ -1,0 +1,66 @@
+use denote.Ref.{now}
+use Rattle.pool.specs.Records.{fieldsFit}
+use Rattle.pool.proofs.RecordLaws.{member-fields}
+use borrow.Author.Tests.{eq-eqb, ne-eqb, le-leb, lt-leb}
+use borrow.Author.Needs.{needs}
+use Rattle.pool.proofs.records.fields_fit.Statement.{statement}
+use Rattle.pool.proofs.records.fields_fit.Tie as tie
+use Rattle.pool.proofs.records.fields_fit.Reads as reads
+use Rattle.pool.proofs.records.fields_fit.Lts as lts
+use Rattle.pool.proofs.records.taken.Reads as taken-reads
+
+shared-slice-read-if1 : tie.Need-shared-slice-read-if1
+shared-slice-read-if1 c = search needs
+
+returns : tie.Need-returns
+unfolding fieldsFit
+returns c = simp (lt-leb _ _ (c .if1 .taken))
+
+shared-slice-read-if2 : tie.Need-shared-slice-read-if2
+shared-slice-read-if2 c = search needs
+
+returns-2 : tie.Need-returns-2
+unfolding fieldsFit
+returns-2 c = simp (le-leb _ _ (c .before .before .if1 .left), lt-leb _ _ (c .if2 .taken))
+
+shared-slice-read-least : tie.Need-shared-slice-read-least
+shared-slice-read-least c = search needs
+
+shared-slice-read-if3 : tie.Need-shared-slice-read-if3
+shared-slice-read-if3 c = search needs
+
+returns-3 : tie.Need-returns-3
+unfolding fieldsFit
+returns-3 c =
+    let b = c .before .before .before .before in
+    simp (le-leb _ _ (b .before .before .if1 .left), le-leb _ _ (b .if2 .left), eq-eqb _ _ (c .before .if3 .taken), ne-eqb _ _ (c .if4 .taken))
+
+taken-requires : tie.Need-taken-requires
+taken-requires c κs = search needs
+
+returns-4 : tie.Need-returns-4
+unfolding fieldsFit
+returns-4 c =
+    let b = c .before .before .before .before .before in
+    simp (le-leb _ _ (b .before .before .if1 .left), le-leb _ _ (b .if2 .left), eq-eqb _ _ (c .before .before .if3 .taken), eq-eqb _ _ (c .before .if4 .left), c .taken .ensures)
+
+returns-5 : tie.Need-returns-5
+unfolding fieldsFit
+returns-5 c =
+    let b = c .before .before .before in
+    member-fields (now (b .before .before .before .before .before .args .bytes)) (b .before .before .if1 .left) (b .if2 .left) (c .if3 .left)
+
+pub fields-fit-spec : {M : Type 1} → statement M
+fields-fit-spec =
+    tie.close
+    (tie.spec
+    shared-slice-read-if1
+    returns
+    shared-slice-read-if2
+    returns-2
+    shared-slice-read-least
+    shared-slice-read-if3
+    returns-3
+    taken-requires
+    returns-4
+    returns-5)

@@ -1,0 +1,71 @@
+use borrow.Author.Needs.{needs}
+use denote.Ref.{now}
+use mathlib.Core.List.{_++_}
+use mathlib.Core.Path.{_≡_, refl, sym, ap, _∙_}
+use Prim.Native.Nat.{_≤_, _-_, _/_}
+use native.Mathlib.Omega.{arith}
+use lib.ListN.{length, drop, replicate}
+use Rattle.pool.specs.Lists.{tabulate}
+use Rattle.pool.specs.Records.{recordsIn, takersOf}
+use Rattle.pool.proofs.Tables.{tabulate-store}
+use Rattle.pool.proofs.Arcs.{replicate-behind}
+use Rattle.pool.proofs.takers.takers.Statement.{statement}
+use Rattle.pool.proofs.takers.takers.Tie as tie
+use Rattle.pool.proofs.takers.takers.Reads as reads
+use Rattle.pool.proofs.takers.takers.Lts as lts
+use Rattle.pool.proofs.takers.takers_of.Reads as takers-of-reads
+
+abbrev Inv-loop : tie.InvT-loop
+Inv-loop bytes places gives₀ u₀ gives u = (u ≤ length bytes / 8) × (gives ≡ tabulate (takersOf (recordsIn bytes)) u ++ drop u gives₀)
+
+abbrev μ-loop : tie.MeasureT-loop
+μ-loop bytes places gives₀ u₀ gives u = length bytes / 8 - u
+
+loop-holds : tie.Need-loop-holds Inv-loop μ-loop
+unfolding tabulate
+loop-holds c = (search needs, refl)
+
+takers-of-requires : tie.Need-takers-of-requires Inv-loop μ-loop
+takers-of-requires c κs = search needs
+
+mul-gives : tie.Need-mul-gives Inv-loop μ-loop
+mul-gives c = search needs
+
+array-write-gives : tie.Need-array-write-gives Inv-loop μ-loop
+array-write-gives c = search needs
+
+add-u : tie.Need-add-u Inv-loop μ-loop
+add-u c = search needs
+
+loop-less : tie.Need-loop-less Inv-loop μ-loop
+loop-less c = search needs
+
+loop-again : tie.Need-loop-again Inv-loop μ-loop
+loop-again c =
+    let l = c .before .before in
+    (search needs, tabulate-store _ (l .loop .u) _ (omega arith) (l .loop .inv .1) (c .takers-of .ensures))
+
+returns : tie.Need-returns Inv-loop μ-loop
+returns c =
+    let l = c .before in
+    let bytes = now (l .before .before .args .bytes) in
+    let f = takersOf (recordsIn bytes) in
+    let done : l .loop .u ≡ length bytes / 8 = omega arith in
+    l .loop .inv .1
+    ∙ ap (λ k. tabulate f k ++ drop k (replicate 14 0)) done
+    ∙ ap (λ r. tabulate f (length bytes / 8) ++ r) (replicate-behind (length bytes / 8) 14 (l .before .before .pre))
+
+pub takers-spec : {M : Type 1} → statement M
+takers-spec =
+    tie.close
+    (tie.spec
+    Inv-loop
+    μ-loop
+    loop-holds
+    takers-of-requires
+    mul-gives
+    array-write-gives
+    add-u
+    loop-less
+    loop-again
+    returns)

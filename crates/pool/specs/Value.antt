@@ -1,0 +1,45 @@
+-- A pool as a value: its graph, and what is refused by 6.
+use mathlib.Core.Bool.{Bool, true, false, not, _&&_, _||_}
+use mathlib.Core.List.{List, [], _∷_}
+use Prim.Native.Nat.{ℕ}
+use lib.Dec.{leb, ltb}
+use lib.ListN.{getD, replicate}
+use Rattle.pool.specs.declared.value.Pool.{Pool}
+use Rattle.pool.specs.Lists.{all, upto}
+use Rattle.pool.specs.Sets.{has}
+use Rattle.pool.specs.Graph.{Graph}
+use Rattle.pool.specs.Refusals.{Outcome, accepted, tested}
+
+-- the compatibility graph of a pool value: u has an arc to v where both are places and v is in the set that u gives to
+abbrev pub graphOf : Pool → Graph
+graphOf p = record {
+  size = p .size;
+  altruists = p .altruists;
+  arc = λ u v. ltb u (p .size) && ltb v (p .size) && has (getD (p .gives) u 0) v;
+}
+
+abbrev pub emptyPool : Pool
+emptyPool = record { size = 0; altruists = 0; gives = replicate 14 0 }
+
+-- ---- 6: over 14 places, more houses than places, arc into a house or from or to a place that isn't there
+
+-- an arc from u to v is one from a place that is there to a member that is there
+abbrev pub arcAllowed : ℕ → ℕ → ℕ → ℕ → Bool
+arcAllowed size altruists u v = ltb u size && leb altruists v && ltb v size
+
+-- every arc from u is; a set has room for 16 places
+unfoldable pub takersFit : ℕ → ℕ → List ℕ → ℕ → Bool
+unfolding all upto has
+takersFit size altruists gives u = all (λ v. not (has (getD gives u 0) v) || arcAllowed size altruists u v) (upto 16 0)
+
+-- every arc is; a value has room for 14 places
+unfoldable pub arcsFit : ℕ → ℕ → List ℕ → Bool
+unfolding takersFit
+arcsFit size altruists gives = all (takersFit size altruists gives) (upto 14 0)
+
+abbrev pub poolFits : Pool → Bool
+poolFits p = leb (p .size) 14 && leb (p .altruists) (p .size) && arcsFit (p .size) (p .altruists) (p .gives)
+
+unfoldable pub testPool : Pool → Outcome Pool
+unfolding tested
+testPool p = tested ((6, poolFits p) ∷ []) 0 (accepted p)

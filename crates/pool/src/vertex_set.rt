@@ -1,0 +1,43 @@
+// A set of vertices as one value.
+ghost use mathlib.Core.Path.{_≡_};
+ghost use Rattle.pool.specs.Sets.{lowestBelow, sizeBelow, withVertex, withoutVertex};
+
+// The sum of 2 to the power v over the vertices v of the set.
+pub struct VertexSet(pub u16);
+
+impl VertexSet {
+    // The lowest vertex, 16 for the empty set.
+    pub fn lowest(self) -> u8
+        ensures { λ r. ⌜ r ≡ lowestBelow 16 (self .0) ⌝ }
+    {
+        u16::trailing_zeros(self.0) as u8
+    }
+
+    // How many vertices it has.
+    pub fn size(self) -> u8
+        ensures { λ r. ⌜ r ≡ sizeBelow 16 (self .0) ⌝ }
+    {
+        u16::count_ones(self.0) as u8
+    }
+
+    // With vertex v; unchanged for a number above 15.
+    pub fn with(self, v: u8) -> VertexSet
+        ensures { λ r. ⌜ r .0 ≡ withVertex 16 (self .0) v ⌝ }
+    {
+        if 15 < v {
+            return self;
+        }
+        VertexSet(self.0 | (1u16 << v))
+    }
+
+    // Without vertex v; unchanged for a number above 15.
+    pub fn without(self, v: u8) -> VertexSet
+        ensures { λ r. ⌜ r .0 ≡ withoutVertex 16 (self .0) v ⌝ }
+    {
+        if 15 < v {
+            return self;
+        }
+        let bit = 1u16 << v;
+        VertexSet((self.0 | bit) - bit)
+    }
+}

@@ -1,0 +1,142 @@
+//! Pool records and arcs, read as the tables of fields and causes say them.
+
+/// A cause met: its number and its spot.
+#[derive(Clone, Copy, Debug, PartialEq, Eq)]
+pub struct Refusal {
+    pub number: u64,
+    pub at: u64,
+}
+
+pub fn refuse<T>(number: u64, at: usize) -> Result<T, Refusal> {
+    Err(Refusal {
+        number,
+        at: at as u64,
+    })
+}
+
+/// "A pool as a value is n, the number of houses (they are the lowest places)
+/// and, for each place, the set of places it gives to", here as rising lists.
+#[derive(Clone, Debug, PartialEq, Eq)]
+pub struct Pool {
+    pub places: usize,
+    pub houses: usize,
+    pub gives: Vec<Vec<usize>>,
+}
+
+impl Pool {
+    pub fn is_house(&self, place: usize) -> bool {
+        place < self.houses
+    }
+
+    pub fn is_member(&self, place: usize) -> bool {
+        !self.is_house(place)
+    }
+
+    pub fn has_arc(&self, giver: usize, taker: usize) -> bool {
+        self.gives[giver].contains(&taker)
+    }
+
+    /// The lists as the C interface tells them: a number for each of 14 places.
+    pub fn sets(&self) -> [u16; 14] {
+        let mut sets = [0; 14];
+        for (set, takers) in sets.iter_mut().zip(&self.gives) {
+            *set = set_number(takers) as u16;
+        }
+        sets
+    }
+}
+
+/// "A set of places is a number: the sum of 2 to the power i over its places i."
+pub fn set_number(places: &[usize]) -> usize {
+    places.iter().map(|&place| 1 << place).sum()
+}
+
+/// The fields of the table "Pool records".
+struct Record<'a>(&'a [u8]);
+
+impl Record<'_> {
+    fn is_house(&self) -> bool {
+        self.0[0] == 72
+    }
+
+    fn is_member(&self) -> bool {
+        self.0[0] == 77
+    }
+
+    fn class(&self) -> u8 {
+        self.0[1]
+    }
+
+    fn grade(&self) -> u8 {
+        self.0[2]
+    }
+
+    fn least_grade(&self) -> u8 {
+        self.0[3]
+    }
+
+    /// "classes taken, bit c set where class c is taken", little-endian.
+    fn takes(&self, class: u8) -> bool {
+        let byte = self.0[4 + usize::from(class / 8)];
+        byte >> (class % 8) & 1 == 1
+    }
+
+    fn takes_any(&self) -> bool {
+        (0..32).any(|class| self.takes(class))
+    }
+
+    /// "another field outside its range", the ranges of a house being narrower.
+    fn field_outside_range(&self) -> bool {
+        let outside = self.class() > 31 || self.grade() > 100 || self.least_grade() > 100;
+        let house_takes = self.is_house() && (self.least_grade() != 0 || self.takes_any());
+        outside || house_takes
+    }
+}
+
+/// Reading pool bytes: the causes 1 to 5, else the pool as a value.
+pub fn read(bytes: &[u8]) -> Result<Pool, Refusal> {
+    if !bytes.len().is_multiple_of(8) {
+        return refuse(1, 0);
+    }
+    if bytes.len() / 8 > 14 {
+        return refuse(2, 0);
+    }
+    let records: Vec<Record> = bytes.chunks(8).map(Record).collect();
+    for at in 0..records.len() {
+        test_record(&records, at)?;
+    }
+    Ok(value_of(&records))
+}
+
+/// "3 to 5 record by record".
+fn test_record(records: &[Record], at: usize) -> Result<(), Refusal> {
+    let record = &records[at];
+    if !record.is_house() && !record.is_member() {
+        return refuse(3, at);
+    }
+    if record.field_outside_range() {
+        return refuse(4, at);
+    }
+    if record.is_house() && records[..at].iter().any(Record::is_member) {
+        return refuse(5, at);
+    }
+    Ok(())
+}
+
+fn value_of(records: &[Record]) -> Pool {
+    let takers = |giver: &Record| {
+        let given = |&taker: &usize| gives_to(giver, &records[taker]);
+        (0..records.len()).filter(given).collect()
+    };
+    Pool {
+        places: records.len(),
+        houses: records.iter().filter(|record| record.is_house()).count(),
+        gives: records.iter().map(takers).collect(),
+    }
+}
+
+/// "Place u gives to place v exactly when v is a member, bit class(u) is set in
+/// v's classes taken, and grade(u) is at least v's least grade."
+fn gives_to(u: &Record, v: &Record) -> bool {
+    v.is_member() && v.takes(u.class()) && u.grade() >= v.least_grade()
+}

@@ -1,0 +1,192 @@
+//! Generators of pool bytes: by records with random fields, and by wanted arcs.
+
+use crate::random::Random;
+
+pub const RECORD: usize = 8;
+pub const MOST_PLACES: usize = 14;
+pub const HOUSE: u8 = 72;
+pub const MEMBER: u8 = 77;
+
+/// A pool record with room for every value, also the wrong ones.
+#[derive(Clone, Copy, Debug)]
+pub struct Record {
+    pub kind: u8,
+    pub class: u8,
+    pub grade: u8,
+    pub least: u8,
+    pub taken: u32,
+}
+
+impl Record {
+    pub fn house(class: u8, grade: u8) -> Self {
+        Record {
+            kind: HOUSE,
+            class,
+            grade,
+            least: 0,
+            taken: 0,
+        }
+    }
+
+    pub fn member(class: u8, grade: u8, least: u8, taken: u32) -> Self {
+        Record {
+            kind: MEMBER,
+            class,
+            grade,
+            least,
+            taken,
+        }
+    }
+
+    pub fn bytes(self) -> [u8; RECORD] {
+        let taken = self.taken.to_le_bytes();
+        let mut bytes = [self.kind, self.class, self.grade, self.least, 0, 0, 0, 0];
+        bytes[4..].copy_from_slice(&taken);
+        bytes
+    }
+}
+
+pub fn bytes_of(records: &[Record]) -> Vec<u8> {
+    records.iter().flat_map(|record| record.bytes()).collect()
+}
+
+/// Pool A of the document.
+pub fn pool_a() -> Vec<u8> {
+    let mut records = vec![Record::house(0, 50)];
+    for (class, taken) in [(1, 5), (2, 2), (3, 20), (4, 8), (5, 16)] {
+        records.push(Record::member(class, 50, 40, taken));
+    }
+    bytes_of(&records)
+}
+
+/// Pool B of the document.
+pub fn pool_b() -> Vec<u8> {
+    let takes = [(0, 12), (1, 5), (2, 2), (3, 1)];
+    let records = takes.map(|(class, taken)| Record::member(class, 50, 40, taken));
+    bytes_of(&records)
+}
+
+/// How the fields of random records are drawn.
+#[derive(Clone, Copy, Debug)]
+pub struct Fields {
+    /// Classes 0 up to this number are given; few classes make many equal places.
+    pub classes: usize,
+    pub takes_percent: usize,
+    pub lowest_grade: usize,
+    pub highest_grade: usize,
+}
+
+impl Fields {
+    pub fn random(random: &mut Random) -> Self {
+        let lowest_grade = random.pick(&[0, 0, 45, 50, 100]);
+        Fields {
+            classes: random.pick(&[1, 2, 4, 8, 32]),
+            takes_percent: random.pick(&[0, 5, 20, 50, 80, 100]),
+            lowest_grade,
+            highest_grade: random.pick(&[100, 100, lowest_grade, (lowest_grade + 3).min(100)]),
+        }
+    }
+
+    fn grade(&self, random: &mut Random) -> u8 {
+        random.between(self.lowest_grade, self.highest_grade) as u8
+    }
+
+    fn class(&self, random: &mut Random) -> u8 {
+        random.below(self.classes) as u8
+    }
+
+    fn taken(&self, random: &mut Random) -> u32 {
+        let mut taken = 0;
+        for class in 0..32 {
+            taken |= u32::from(random.chance(self.takes_percent)) << class;
+        }
+        taken
+    }
+
+    fn record(&self, random: &mut Random, house: bool) -> Record {
+        let class = self.class(random);
+        let grade = self.grade(random);
+        if house {
+            return Record::house(class, grade);
+        }
+        let least = self.grade(random);
+        Record::member(class, grade, least, self.taken(random))
+    }
+}
+
+/// Faultless records, houses first.
+pub fn random_records(random: &mut Random, places: usize, houses: usize) -> Vec<Record> {
+    let fields = Fields::random(random);
+    (0..places)
+        .map(|place| fields.record(random, place < houses))
+        .collect()
+}
+
+/// A faultless pool of a random number of houses.
+pub fn random_pool(random: &mut Random, places: usize) -> Vec<u8> {
+    let houses = random.between(0, places);
+    bytes_of(&random_records(random, places, houses))
+}
+
+/// Puts a random value into a random byte.
+pub fn damage(random: &mut Random, pool: &mut [u8]) {
+    let at = random.below(pool.len());
+    pool[at] = random.byte();
+}
+
+/// A pool with just these arcs: place u gives class u, so every list of arcs
+/// into members can be had.
+pub fn bytes_of_arcs(houses: usize, gives: &[Vec<usize>]) -> Vec<u8> {
+    let record = |place: usize| {
+        if place < houses {
+            return Record::house(place as u8, 50);
+        }
+        let givers = (0..gives.len()).filter(|&giver| gives[giver].contains(&place));
+        Record::member(place as u8, 50, 50, givers.map(|giver| 1 << giver).sum())
+    };
+    let records: Vec<Record> = (0..gives.len()).map(record).collect();
+    bytes_of(&records)
+}
+
+/// Each arc into a member with the given chance, arcs of a place to itself with their own.
+pub fn random_arcs(
+    random: &mut Random,
+    places: usize,
+    houses: usize,
+    percent: usize,
+    self_percent: usize,
+) -> Vec<Vec<usize>> {
+    let mut gives = vec![Vec::new(); places];
+    for (giver, takers) in gives.iter_mut().enumerate() {
+        for taker in houses..places {
+            let chance = if giver == taker {
+                self_percent
+            } else {
+                percent
+            };
+            if random.chance(chance) {
+                takers.push(taker);
+            }
+        }
+    }
+    gives
+}
+
+/// One ring through all members in their order, houses giving to the first of them.
+pub fn one_ring(places: usize, houses: usize) -> Vec<Vec<usize>> {
+    let next = |place: usize| {
+        if place < houses || place + 1 == places {
+            houses
+        } else {
+            place + 1
+        }
+    };
+    let takers = |place: usize| {
+        if houses < places {
+            vec![next(place)]
+        } else {
+            Vec::new()
+        }
+    };
+    (0..places).map(takers).collect()
+}
