@@ -2,10 +2,11 @@
 //! every entry touched.
 
 use crate::random::Random;
+use std::fmt::Debug;
 
 const MARGIN: usize = 24;
 
-pub trait Garbage: Copy + PartialEq {
+pub trait Garbage: Copy + PartialEq + Debug {
     fn garbage(random: &mut Random) -> Self;
 }
 
@@ -56,13 +57,21 @@ impl<T: Garbage> Lent<T> {
         &self.all[self.start..self.start + self.len]
     }
 
-    pub fn untouched(&self) -> bool {
-        self.all == self.copy
+    /// Nothing lent and nothing around it has changed.
+    pub fn expect_untouched(&self, case: impl Debug) {
+        assert!(self.all == self.copy, "touched: {case:?}");
     }
 
-    /// Whether all before the lent part and all from its entry `kept` on is as it was.
-    pub fn untouched_from(&self, kept: usize) -> bool {
-        let rest = self.start + kept;
-        self.all[..self.start] == self.copy[..self.start] && self.all[rest..] == self.copy[rest..]
+    /// The contents stand at the front; all behind and around them is as it was.
+    pub fn expect_front(&self, contents: &[T], case: impl Debug) {
+        let behind = self.start + contents.len();
+        let front = &self.all[self.start..behind];
+        if let Some(at) = (0..contents.len()).find(|&at| front[at] != contents[at]) {
+            let (found, expected) = (front[at], contents[at]);
+            panic!("entry {at} is {found:?}, not {expected:?}: {case:?}");
+        }
+        let before = self.all[..self.start] == self.copy[..self.start];
+        let after = self.all[behind..] == self.copy[behind..];
+        assert!(before && after, "touched beyond the contents: {case:?}");
     }
 }

@@ -1,7 +1,15 @@
 //! A brute force of the swap board and the C interface it is compared with.
 
+pub mod baseline;
 pub mod calls;
+pub mod large;
 pub mod lent;
+pub mod misses;
 pub mod oracle;
+pub mod plans;
 pub mod pools;
+pub mod program;
 pub mod random;
+pub mod refusal;
+pub mod samples;
+pub mod timing;

@@ -1,4 +1,5 @@
-//! Generators of pool bytes: by records with random fields, and by wanted arcs.
+//! Generators of pools: bytes by records with random fields or by wanted arcs,
+//! and pool values.
 
 use crate::random::Random;
 
@@ -6,6 +7,14 @@ pub const RECORD: usize = 8;
 pub const MOST_PLACES: usize = 14;
 pub const HOUSE: u8 = 72;
 pub const MEMBER: u8 = 77;
+
+/// A pool as the C interface takes it, with room for every value, also the wrong ones.
+#[derive(Clone, Copy, Debug, PartialEq, Eq)]
+pub struct PoolValue {
+    pub places: u8,
+    pub houses: u8,
+    pub gives: [u16; 14],
+}
 
 /// A pool record with room for every value, also the wrong ones.
 #[derive(Clone, Copy, Debug)]
@@ -187,6 +196,27 @@ pub fn one_ring(places: usize, houses: usize) -> Vec<Vec<usize>> {
         } else {
             Vec::new()
         }
+    };
+    (0..places).map(takers).collect()
+}
+
+/// Arcs of any density, with and without places that give to themselves.
+pub fn random_shape(random: &mut Random, places: usize, houses: usize) -> Vec<Vec<usize>> {
+    if random.chance(10) {
+        return one_ring(places, houses);
+    }
+    let percent = random.pick(&[0, 10, 20, 35, 50, 75, 100]);
+    let self_percent = random.pick(&[0, 0, 30, 100]);
+    random_arcs(random, places, houses, percent, self_percent)
+}
+
+/// Every arc into a member, for every place or all but from a place to itself.
+pub fn all_arcs(places: usize, houses: usize, to_itself: bool) -> Vec<Vec<usize>> {
+    let takers = |giver: usize| {
+        let members = houses..places;
+        members
+            .filter(|&taker| to_itself || taker != giver)
+            .collect()
     };
     (0..places).map(takers).collect()
 }

@@ -2,31 +2,32 @@
 
 use swapboard_tests::calls::{read_pool, Answer};
 use swapboard_tests::lent::Lent;
-use swapboard_tests::oracle::pool::{read, Pool, Refusal};
+use swapboard_tests::oracle::pool::{read, Pool};
 use swapboard_tests::pools::*;
 use swapboard_tests::random::Random;
+use swapboard_tests::refusal::Refusal;
 
 /// Calls with garbage in `gives`; on a refusal all of it must be as it was.
 fn call(random: &mut Random, pool: &[u8]) -> (Answer, Option<[u16; 14]>) {
     let mut lent_pool = Lent::holding(random, pool);
     let mut gives = Lent::garbage(random, 14);
     let answer = read_pool(lent_pool.part(), gives.part().try_into().unwrap());
-    assert!(lent_pool.untouched(), "pool bytes changed: {pool:?}");
+    lent_pool.expect_untouched(pool);
     if answer.number == 0 {
-        assert!(gives.untouched_from(14), "beyond the sets: {pool:?}");
+        gives.expect_front(gives.contents(), pool);
         return (answer, Some(gives.contents().try_into().unwrap()));
     }
-    assert!(gives.untouched(), "sets touched by a refusal: {pool:?}");
+    gives.expect_untouched(pool);
     (answer, None)
 }
 
 fn expect_refused(random: &mut Random, pool: &[u8], number: u64, at: usize) {
-    let (answer, _) = call(random, pool);
-    assert_eq!(answer, Answer::refused(number, at as u64), "{pool:?}");
     let refusal = Refusal {
         number,
         at: at as u64,
     };
+    let (answer, _) = call(random, pool);
+    assert_eq!(answer, Answer::refused(refusal), "{pool:?}");
     assert_eq!(read(pool), Err(refusal), "{pool:?}");
 }
 
@@ -34,7 +35,7 @@ fn expect_accepted(random: &mut Random, pool: &[u8], value: &Pool) {
     let (answer, gives) = call(random, pool);
     let accepted = Answer::accepted(value.places as u64, value.houses as u64);
     assert_eq!(answer, accepted, "{pool:?}");
-    assert_eq!(gives, Some(value.sets()), "{pool:?}");
+    assert_eq!(gives, Some(value.value().gives), "{pool:?}");
 }
 
 /// Compares with the oracle, whatever it says.

@@ -20,3 +20,17 @@ poolAnswer (refused number at) = refusedWith number at
 abbrev pub givesLeft : Outcome Pool → List ℕ → List ℕ
 givesLeft (accepted p) gives = p .gives
 givesLeft (refused number at) gives = gives
+
+-- the pool value that C tells by its parts
+abbrev pub poolFrom : ℕ → ℕ → List ℕ → Pool
+poolFrom places houses gives = record { size = places; altruists = houses; gives = gives }
+
+-- a count: the entries written, or the members served
+abbrev pub countAnswer : Outcome ℕ → Answer
+countAnswer (accepted count) = acceptedWith count 0
+countAnswer (refused number at) = refusedWith number at
+
+-- clearing: members served, and records written
+abbrev pub clearAnswer : Outcome (ℕ × ℕ) → Answer
+clearAnswer (accepted counts) = acceptedWith (counts .0) (counts .1)
+clearAnswer (refused number at) = refusedWith number at

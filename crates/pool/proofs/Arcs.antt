@@ -1,26 +1,21 @@
 -- Whether one record gives to another, and the set of the places that a place gives to, as code finds them.
-use mathlib.Core.Bool.{Bool, true, false, _&&_, and-false}
-use mathlib.Core.List.{List, [], _++_}
+use mathlib.Core.Bool.{Bool, true, false, _&&_}
+use mathlib.Core.List.{List, []}
 use mathlib.Core.Logic.{_≢_}
 use mathlib.Core.Path.{_≡_, refl, sym, ap, ap₂, _∙_}
 use Prim.Native.Nat.{ℕ, zero, suc, _+_, _-_, _*_, _/_, _%_, _^_, _≤_, _<_}
 use native.Mathlib.Nat.{mod-lt, zero-lt-suc, sub-zero, suc-sub-suc}
-use native.Mathlib.Numerals.{add-one}
 use native.Mathlib.Omega.{arith}
-use lib.Bits.{bitOr}
-use lib.Dec.{T, eqb, leb}
-use lib.ListN.{length, getD, take, drop, set, replicate}
-use lib.Pow.{pow-mono}
+use lib.Dec.{leb}
+use lib.ListN.{length, getD, take, drop, replicate}
 use borrow.Author.Tests.{eq-eqb, ne-eqb}
-use Rattle.pool.specs.Lists.{tabulate}
 use Rattle.pool.specs.Sets.{has, setWhere, withVertex}
 use Rattle.pool.specs.Records.{recordSize, kindOf, classOf, gradeOf, leastOf, takenOf, tellsMember, recordGives, recordsIn, takersOf}
-use Rattle.pool.proofs.Tests.{is-true, is-false, from-true, from-false}
+use Rattle.pool.proofs.Tests.{is-false}
 use Rattle.pool.proofs.SetLaws.{has-below}
-use Rattle.pool.proofs.Vertices.{where-pass, where-fail, where-lt}
-use Rattle.pool.proofs.Operations.{with-or}
+use Rattle.pool.proofs.SetLoops.{made-with, made-without}
 use Rattle.pool.proofs.Cut.{getD-cut, length-cut}
-use Rattle.pool.proofs.Scanning.{recordAt, at-record}
+use Rattle.pool.proofs.Scanning.{at-record}
 
 -- ---- does a record give to another?
 
@@ -71,13 +66,10 @@ module _ (bytes : List ℕ) (u : ℕ) where
         part i k = at-record bytes i ∙ sym (getD-cut recordSize (length bytes / recordSize) i bytes k)
 
     pub takers-add : {s next : ℕ} → b ≡ true → s ≡ setWhere v takes → next ≡ withVertex 16 s v → next ≡ setWhere (v + 1) takes
-    takers-add {s} {next} t e n =
-        let wide : setWhere v takes < 2 ^ 16 = omega (arith, where-lt v takes, pow-mono {i = v} {j = 16} (omega arith)) in
-        rw (add-one v)
-        (n ∙ ap (λ (x : ℕ). withVertex 16 x v) e ∙ with-or 16 (setWhere v takes) wide v (omega arith) ∙ sym (where-pass v takes (from-true (sym takes-is ∙ t))))
+    takers-add t e n = made-with takes e takes-is 16 (omega arith) t n
 
     pub takers-skip : {s next : ℕ} → b ≡ false → s ≡ setWhere v takes → next ≡ s → next ≡ setWhere (v + 1) takes
-    takers-skip f e n = rw (add-one v) (n ∙ e ∙ sym (where-fail v takes (from-false (sym takes-is ∙ f))))
+    takers-skip f e n = made-without takes e takes-is f n
 
 -- nothing from places that are not there
 pub replicate-behind : (k n : ℕ) → k ≤ n → drop k (replicate {A = ℕ} n 0) ≡ replicate (n - k) 0

@@ -13,10 +13,13 @@ pub mod Vertices
 pub mod SetOf
 pub mod Worth
 pub mod Operations
+pub mod SetLoops
+pub mod MachineBits
 -- tests in order
 pub mod Tested
--- a pool as a value
+-- a pool as a value, and limits
 pub mod ValueLaws
+pub mod Accepted
 -- reading a pool
 pub mod RecordLaws
 pub mod Scanning

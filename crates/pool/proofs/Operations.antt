@@ -1,16 +1,15 @@
 -- The operations on sets of vertices below k, as the machine carries them out.
-use mathlib.Core.Bool.{Bool, true, false, not, _&&_, _||_}
+use mathlib.Core.Bool.{Bool, true, not, _&&_, _||_}
 use mathlib.Core.Logic.{_↔_, _⊎_, inl, inr, ⊎-elim}
-use mathlib.Core.Path.{_≡_, refl, sym, ap, _∙_}
-use Prim.Native.Nat.{ℕ, _+_, _-_, _*_, _%_, _^_, _≤_, _<_}
+use mathlib.Core.Path.{_≡_, ap, _∙_}
+use Prim.Native.Nat.{ℕ, _-_, _*_, _%_, _^_, _≤_, _<_}
 use native.Mathlib.Nat.{one-mul, mod-eq-of-lt}
 use native.Mathlib.Omega.{arith}
 use lib.Bits.{bitOr, or-lt, or-add-and, and-le-l}
 use lib.Count.{ones}
 use lib.Dec.{T, eqb, eqb→eq, T-not, not-T}
 use lib.Pow.{pow-lt}
-use borrow.Author.Tests.{ne-eqb}
-use Rattle.pool.specs.Sets.{has, setWhere, worthOf, sizeBelow, withVertex, withoutVertex}
+use Rattle.pool.specs.Sets.{has, Part, setWhere, sizeBelow, withVertex, withoutVertex}
 use Rattle.pool.proofs.Tests.{passes?, and-iff, and-left, and-both, or-cases, or-left, or-right, eq→eqb}
 use Rattle.pool.proofs.SetLaws.{same-set, has-below}
 use Rattle.pool.proofs.Parts.{has-or}
@@ -33,6 +32,11 @@ one-shl w v h = ap (λ (x : ℕ). x % 2 ^ w) (one-mul (2 ^ v)) ∙ mod-eq-of-lt 
 -- what is put in can be taken out
 pub or-holds : (s t : ℕ) → t ≤ bitOr s t
 or-holds s t = omega (arith, or-add-and s t, and-le-l s t)
+
+-- without a vertex a set is a part of itself
+pub without-part : (k s v : ℕ) → Part (withoutVertex k s v) s
+unfolding withoutVertex
+without-part k s v = record { within = λ u h. and-left (has s u) (not (eqb u v)) (in-where k (λ u. has s u && not (eqb u v)) u .0 h .1) }
 
 module _ (k s : ℕ) (b : s < 2 ^ k) where
   pub size-ones : sizeBelow k s ≡ ones s

@@ -1,21 +1,21 @@
 -- What pool bytes that are read hold: a pool value that passes its test, with arcs by the rule of document 01.
 use mathlib.Core.Bool.{Bool, true, false, not, _&&_, _||_}
-use mathlib.Core.List.{List, [], _∷_, _++_}
-use mathlib.Core.Logic.{_↔_, _⊎_, inl, inr, ⊎-elim}
+use mathlib.Core.List.{List, [], _∷_}
+use mathlib.Core.Logic.{_↔_}
 use mathlib.Core.Path.{_≡_, refl, sym, ap, _∙_}
-use Prim.Native.Nat.{ℕ, zero, suc, _+_, _-_, _/_, _%_, _≤_, _<_}
+use Prim.Native.Nat.{ℕ, zero, suc, _-_, _/_, _%_, _≤_, _<_}
 use native.Mathlib.Decide.{decLt}
 use native.Mathlib.Omega.{arith}
 use lib.Dec.{T, eqb, leb, ltb, eqb→eq, leb→le, le→leb, lt→ltb, T-not}
 use lib.ListN.{length, getD, replicate}
 use Rattle.pool.specs.declared.value.Pool.{Pool}
-use Rattle.pool.specs.Lists.{Each, none, also, keep, tabulate}
-use Rattle.pool.specs.Sets.{has, setWhere}
+use Rattle.pool.specs.Lists.{keep}
+use Rattle.pool.specs.Sets.{has}
 use Rattle.pool.specs.Graph.{WellFormed}
-use Rattle.pool.specs.Refusals.{Outcome, accepted, refused, tested}
+use Rattle.pool.specs.Refusals.{Outcome, accepted}
 use Rattle.pool.specs.Value.{graphOf, arcAllowed, arcsFit, takersFit, poolFits}
 use Rattle.pool.specs.Records.{recordSize, classOf, gradeOf, leastOf, takenOf, tellsHouse, tellsMember, recordTests, recordsTested, recordGives, recordsIn, takersOf, poolOf, readPool, GivesTo}
-use Rattle.pool.proofs.Tests.{is-true, is-false, from-false, and-left, and-iff, and-iff₃, implies-iff, eq→eqb, or-right}
+use Rattle.pool.proofs.Tests.{is-true, is-false, and-iff₃, implies-iff, or-right}
 use Rattle.pool.proofs.Each.{each-first, each-rest, keep-no, keep-one, keep-length}
 use Rattle.pool.proofs.ListLaws.{all-below}
 use Rattle.pool.proofs.Tables.{getD-tabulate, getD-after}

@@ -3,16 +3,13 @@ use mathlib.Core.Bool.{Bool, true, false, not, _&&_, _||_, true≢false}
 use mathlib.Core.List.{List, [], _∷_}
 use mathlib.Core.Logic.{_⊎_, ⊎-elim, _≢_}
 use mathlib.Core.Path.{_≡_, refl, sym, ap, _∙_}
-use Prim.Native.Nat.{ℕ, _+_, _*_, _/_, _%_, _^_, _≤_, _<_}
+use Prim.Native.Nat.{ℕ, _≤_}
 use native.Mathlib.Omega.{arith}
 use lib.Dec.{T, eqb, leb, T-not, not-T}
-use lib.ListN.{getD}
-use borrow.Author.Tests.{eq-eqb, ne-eqb, le-leb, lt-leb}
-use Rattle.pool.specs.Sets.{has}
+use borrow.Author.Tests.{eq-eqb, ne-eqb, le-leb}
 use Rattle.pool.specs.Refusals.{Outcome, accepted, refused, tested}
-use Rattle.pool.specs.Records.{kindOf, classOf, gradeOf, leastOf, takenOf, tellsHouse, tellsMember, fieldsFit, recordTests, recordGives}
+use Rattle.pool.specs.Records.{kindOf, classOf, gradeOf, leastOf, takenOf, tellsHouse, tellsMember, fieldsFit, recordTests}
 use Rattle.pool.proofs.Tests.{and-left, and-right, and-both, or-left, or-right, or-cases, from-true, from-false, eq→eqb}
-use Rattle.pool.proofs.SetLaws.{has-below}
 use Rattle.pool.proofs.Tested.{passes, fails}
 
 -- ---- the fields

@@ -1,12 +1,11 @@
 -- The loop that tests the records of a pool one by one and counts the houses.
-use mathlib.Core.Bool.{Bool, true, false, not, _&&_, _||_, or-false, or-true}
-use mathlib.Core.List.{List, [], _∷_}
+use mathlib.Core.Bool.{Bool, true, false, _||_, or-false, or-true}
+use mathlib.Core.List.{List, _∷_}
 use mathlib.Core.Logic.{⊎-elim}
-use mathlib.Core.Path.{_≡_, refl, sym, ap, _∙_}
+use mathlib.Core.Path.{_≡_, sym, ap, _∙_}
 use Prim.Native.Nat.{ℕ, suc, _+_, _-_, _*_, _/_, _≤_, _<_}
 use native.Mathlib.Numerals.{add-one}
 use native.Mathlib.Omega.{arith}
-use lib.Dec.{T}
 use lib.ListN.{length, take, drop}
 use borrow.Author.Tests.{eqb-true, ne-eqb}
 use Rattle.pool.specs.declared.records.Entry.{Entry}

@@ -1,5 +1,5 @@
 -- Tables filled upward: the laws of `tabulate`.
-use mathlib.Core.List.{_∷_, [], List, _++_}
+use mathlib.Core.List.{_∷_, [], List, _++_, append-nil}
 use mathlib.Core.Logic.{_⊎_, inl, inr}
 use mathlib.Core.Path.{_≡_, refl, ap, sym, _∙_, subst}
 use Prim.Native.Nat.{ℕ, zero, suc, _+_, _-_, _≤_, _<_}
@@ -7,7 +7,7 @@ use native.Mathlib.Nat.{eq-or-lt-of-le, le-of-suc-le-suc, add-zero}
 use native.Mathlib.Numerals.{add-one}
 use native.Mathlib.Omega.{arith}
 use lib.ListN.{length, length-append, getD, drop, set}
-use lib.Seq.{append-snoc, drop-cons, set-at, getD-at, getD-append-add, getD-drop}
+use lib.Seq.{append-snoc, drop-cons, drop-at, set-at, getD-at, getD-append-add, getD-drop}
 use Rattle.pool.specs.Lists.{tabulate}
 
 pub length-tabulate : (f : ℕ → ℕ) (k : ℕ) → length (tabulate f k) ≡ k
@@ -40,6 +40,10 @@ getD-tabulate f (suc k) i rest h =
     go ih (inl e) = rw e (getD-at (tabulate f k) (f k) rest 0 k (length-tabulate f k))
     go ih (inr l) = ih l
 
+-- where nothing follows
+pub getD-whole : (f : ℕ → ℕ) (k i : ℕ) → i < k → getD (tabulate f k) i 0 ≡ f i
+getD-whole f k i h = ap (λ (l : List ℕ). getD l i 0) (sym (append-nil (tabulate f k))) ∙ getD-tabulate f k i [] h
+
 -- entry k of a table that is overwritten from the front, when its turn comes
 pub getD-behind : (f : ℕ → ℕ) (k : ℕ) (t : List ℕ) → getD (tabulate f k ++ drop k t) k 0 ≡ getD t k 0
 getD-behind f k t =
@@ -58,3 +62,7 @@ pub tabulate-same : {f g : ℕ → ℕ} → ((i : ℕ) → f i ≡ g i) → (k :
 unfolding tabulate
 tabulate-same same zero = refl
 tabulate-same same (suc k) = rw (tabulate-same same k, same k)
+
+-- a table that is filled twice holds what was stored last
+pub tabulate-over : (f g : ℕ → ℕ) (k : ℕ) (d : List ℕ) → tabulate f k ++ drop k (tabulate g k ++ drop k d) ≡ tabulate f k ++ drop k d
+tabulate-over f g k d = ap (λ (l : List ℕ). tabulate f k ++ l) (drop-at (tabulate g k) (drop k d) k (length-tabulate g k))

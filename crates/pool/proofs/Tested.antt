@@ -1,6 +1,6 @@
 -- Laws of tests made in order: where one passes and where one fails, and how a call goes by the outcome of another.
 use mathlib.Core.Bool.{Bool, true, false}
-use mathlib.Core.List.{List, [], _∷_}
+use mathlib.Core.List.{List, [], _∷_, _++_}
 use mathlib.Core.Path.{_≡_, refl, sym, ap, _∙_}
 use Prim.Native.Nat.{ℕ}
 use native.Mathlib.Omega.{arith}
@@ -76,3 +76,22 @@ outcome-accepted {a = a} e f = sym (ap (λ (w : Verdict). outcomeOf w a) e) ∙ 
 pub outcome-refused : {A : Type 0} {v : Verdict} (a : A) {o : Outcome A} {r : Refusal} → v ≡ verdict.Refused r → outcomeOf v a ≡ o
     → refused (numberOf (r .cause)) (r .at) ≡ o
 outcome-refused a e f = sym (ap (λ (w : Verdict). outcomeOf w a) e) ∙ f
+
+-- ---- tests known one by one
+
+abbrev pub Pass : ℕ × Bool → Type 0
+Pass t = T (t .1)
+
+module _ {A : Type 0} (at : ℕ) (rest : Outcome A) where
+  -- where all hold, the outcome is that of the rest
+  pub all-pass : {ts : List (ℕ × Bool)} → Each Pass ts → tested ts at rest ≡ rest
+  unfolding tested
+  all-pass none = refl
+  all-pass (also {x = (n, b)} {xs = ts} h hs) = passes n b ts at rest h ∙ all-pass hs
+
+  -- the first that fails decides
+  pub first-fails : (before : List (ℕ × Bool)) (n : ℕ) (b : Bool) (after : List (ℕ × Bool)) → Each Pass before → (T b → ⊥)
+      → tested (before ++ (n, b) ∷ after) at rest ≡ refused n at
+  first-fails [] n b after none f = fails n b after at rest f
+  first-fails ((k, c) ∷ before) n b after (also h hs) f =
+      passes k c (before ++ (n, b) ∷ after) at rest h ∙ first-fails before n b after hs f

@@ -1,20 +1,19 @@
 -- A pool value that passes its test (6): its arcs, and its graph.
 use mathlib.Core.Bool.{Bool, true, false, not, _&&_, _||_}
 use mathlib.Core.List.{List, []}
-use mathlib.Core.Logic.{_↔_, _⊎_, inl, inr}
-use mathlib.Core.Path.{_≡_, refl, sym, ap, _∙_}
-use Prim.Native.Nat.{ℕ, _-_, _+_, _*_, _%_, _^_, _≤_, _<_}
+use mathlib.Core.Logic.{_↔_}
+use mathlib.Core.Path.{_≡_, sym}
+use Prim.Native.Nat.{ℕ, _-_, _*_, _%_, _^_, _≤_, _<_}
 use native.Mathlib.Decide.{decLe}
 use native.Mathlib.Omega.{arith}
 use lib.Bits.{bitAnd}
 use lib.Dec.{T, ltb, leb, ltb→lt, lt→ltb, leb→le, le→leb}
 use lib.ListN.{getD}
-use lib.Pow.{ones-lt, pow-pos, pow-mono}
+use lib.Pow.{ones-lt, pow-pos}
 use borrow.Author.Tests.{lt-ltb, le-ltb}
 use Rattle.pool.specs.declared.value.Pool.{Pool}
-use Rattle.pool.specs.Lists.{upto}
 use Rattle.pool.specs.Sets.{has, counted, Part}
-use Rattle.pool.specs.Graph.{Graph, WellFormed}
+use Rattle.pool.specs.Graph.{WellFormed}
 use Rattle.pool.specs.Refusals.{accepted, refused}
 use Rattle.pool.specs.Value.{graphOf, arcAllowed, takersFit, arcsFit, poolFits, testPool}
 use Rattle.pool.proofs.Tests.{and-iff, and-iff₃, implies-iff, is-true, is-false}

@@ -1,5 +1,5 @@
--- The compatibility graph of the restricted kidney exchange problem of Xiao and Wang (001, Problem Definition: a directed graph
--- whose vertices are ordinary or altruistic, no arc leading to an altruistic one).
+-- The compatibility graph of the restricted kidney exchange problem, (Lc, Lp)-KEP, of Xiao and Wang (001): "a directed graph G = (V, A) with possible
+-- self-loops, an altruistic vertex set B", where "there is no arc from a vertex to an altruistic vertex".
 use mathlib.Core.Bool.{Bool, _&&_}
 use Prim.Native.Nat.{ℕ, _≤_, _<_}
 use lib.Dec.{T, ltb, leb}

@@ -1,3 +1,7 @@
 //! The meaning of the swap board, by brute force over lists of places.
 
+pub mod best;
+pub mod check;
+pub mod exchange;
+pub mod plan;
 pub mod pool;

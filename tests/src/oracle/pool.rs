@@ -1,18 +1,7 @@
 //! Pool records and arcs, read as the tables of fields and causes say them.
 
-/// A cause met: its number and its spot.
-#[derive(Clone, Copy, Debug, PartialEq, Eq)]
-pub struct Refusal {
-    pub number: u64,
-    pub at: u64,
-}
-
-pub fn refuse<T>(number: u64, at: usize) -> Result<T, Refusal> {
-    Err(Refusal {
-        number,
-        at: at as u64,
-    })
-}
+use crate::pools::PoolValue;
+use crate::refusal::{refuse, Refusal};
 
 /// "A pool as a value is n, the number of houses (they are the lowest places)
 /// and, for each place, the set of places it gives to", here as rising lists.
@@ -36,19 +25,53 @@ impl Pool {
         self.gives[giver].contains(&taker)
     }
 
-    /// The lists as the C interface tells them: a number for each of 14 places.
-    pub fn sets(&self) -> [u16; 14] {
-        let mut sets = [0; 14];
-        for (set, takers) in sets.iter_mut().zip(&self.gives) {
+    pub fn members_in(&self, places: &[usize]) -> usize {
+        let member = |&&place: &&usize| self.is_member(place);
+        places.iter().filter(member).count()
+    }
+
+    /// The lists as the C interface tells them.
+    pub fn value(&self) -> PoolValue {
+        let mut gives = [0; 14];
+        for (set, takers) in gives.iter_mut().zip(&self.gives) {
             *set = set_number(takers) as u16;
         }
-        sets
+        PoolValue {
+            places: self.places as u8,
+            houses: self.houses as u8,
+            gives,
+        }
+    }
+
+    /// A "pool passed as a value", or cause 6: "over 14 places, more houses than
+    /// places, arc into a house or from or to a place that isn't there".
+    pub fn of_value(value: &PoolValue) -> Result<Pool, Refusal> {
+        let places = usize::from(value.places);
+        let houses = usize::from(value.houses);
+        let mut gives = value.gives.map(|set| places_of(set.into())).to_vec();
+        let there = |place: usize| place < places;
+        let astray = |giver: usize, taker: usize| !there(giver) || !there(taker) || taker < houses;
+        let has_astray = |giver: usize| gives[giver].iter().any(|&taker| astray(giver, taker));
+        if places > 14 || houses > places || (0..14).any(has_astray) {
+            return refuse(6, 0);
+        }
+        gives.truncate(places);
+        Ok(Pool {
+            places,
+            houses,
+            gives,
+        })
     }
 }
 
 /// "A set of places is a number: the sum of 2 to the power i over its places i."
 pub fn set_number(places: &[usize]) -> usize {
     places.iter().map(|&place| 1 << place).sum()
+}
+
+/// The places of a set, rising.
+pub fn places_of(set: usize) -> Vec<usize> {
+    (0..16).filter(|place| set >> place & 1 == 1).collect()
 }
 
 /// The fields of the table "Pool records".

@@ -5,11 +5,6 @@ use Rattle.capi.specs.Answers.{poolAnswer, givesLeft}
 use borrow.Author.Needs.{needs}
 use Rattle.capi.proofs.read_pool.swap_read_pool.Statement.{statement}
 use Rattle.capi.proofs.read_pool.swap_read_pool.Tie as tie
-use Rattle.capi.proofs.read_pool.swap_read_pool.Reads as reads
-use Rattle.capi.proofs.read_pool.swap_read_pool.Lts as lts
-use Rattle.capi.proofs.answer.Answer.accepted.Reads as accepted-reads
-use Rattle.capi.proofs.answer.Answer.refused.Reads as refused-reads
-use Rattle.pool.proofs.read_pool.Reads as read-pool-reads
 
 read-pool-requires : tie.Need-read-pool-requires
 read-pool-requires c κs = search needs

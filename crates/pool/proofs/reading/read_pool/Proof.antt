@@ -1,16 +1,11 @@
 use denote.Ref.{now}
-use mathlib.Core.Path.{_≡_, refl, sym, ap, _∙_}
+use mathlib.Core.Path.{refl, sym, ap, _∙_}
 use Rattle.pool.specs.Refusals.{accepted}
 use Rattle.pool.specs.Reading.{scanOutcome}
 use Rattle.pool.proofs.ReadLaws.{read-uneven, read-many, read-stop, read-done, answer-refused, answer-accepted, counted-houses, pool-read}
 use borrow.Author.Needs.{needs}
 use Rattle.pool.proofs.reading.read_pool.Statement.{statement}
 use Rattle.pool.proofs.reading.read_pool.Tie as tie
-use Rattle.pool.proofs.reading.read_pool.Reads as reads
-use Rattle.pool.proofs.reading.read_pool.Lts as lts
-use Rattle.pool.proofs.reading.refused.Reads as refused-reads
-use Rattle.pool.proofs.records.scan_records.Reads as scan-records-reads
-use Rattle.pool.proofs.takers.takers.Reads as takers-reads
 
 refused-requires : tie.Need-refused-requires
 refused-requires c κs = search needs

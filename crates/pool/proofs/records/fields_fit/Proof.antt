@@ -5,9 +5,6 @@ use borrow.Author.Tests.{eq-eqb, ne-eqb, le-leb, lt-leb}
 use borrow.Author.Needs.{needs}
 use Rattle.pool.proofs.records.fields_fit.Statement.{statement}
 use Rattle.pool.proofs.records.fields_fit.Tie as tie
-use Rattle.pool.proofs.records.fields_fit.Reads as reads
-use Rattle.pool.proofs.records.fields_fit.Lts as lts
-use Rattle.pool.proofs.records.taken.Reads as taken-reads
 
 shared-slice-read-if1 : tie.Need-shared-slice-read-if1
 shared-slice-read-if1 c = search needs

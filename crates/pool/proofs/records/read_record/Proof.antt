@@ -7,9 +7,6 @@ use Rattle.pool.proofs.RecordLaws.{kind-unknown, field-out, too-late, h
 use borrow.Author.Needs.{needs}
 use Rattle.pool.proofs.records.read_record.Statement.{statement}
 use Rattle.pool.proofs.records.read_record.Tie as tie
-use Rattle.pool.proofs.records.read_record.Reads as reads
-use Rattle.pool.proofs.records.read_record.Lts as lts
-use Rattle.pool.proofs.records.fields_fit.Reads as fields-fit-reads
 
 shared-slice-read-kind : tie.Need-shared-slice-read-kind
 shared-slice-read-kind c = search needs

@@ -1,17 +1,11 @@
 use borrow.Author.Needs.{needs}
-use denote.Ref.{now}
 use mathlib.Core.Logic.{⊎-elim}
-use mathlib.Core.Path.{_≡_, sym, ap, _∙_}
 use Prim.Native.Nat.{_-_, _/_}
 use native.Mathlib.Omega.{arith}
 use lib.ListN.{length}
-use Rattle.pool.specs.Reading.{entryOutcome}
 use Rattle.pool.proofs.Scanning.{Scanning, scan-start, scan-same, scan-house, scan-member, scan-stop, scan-end, read-here}
 use Rattle.pool.proofs.records.scan_records.Statement.{statement}
 use Rattle.pool.proofs.records.scan_records.Tie as tie
-use Rattle.pool.proofs.records.scan_records.Reads as reads
-use Rattle.pool.proofs.records.scan_records.Lts as lts
-use Rattle.pool.proofs.records.read_record.Reads as read-record-reads
 
 abbrev Inv-loop : tie.InvT-loop
 Inv-loop bytes places houses₀ after-member₀ i₀ houses after-member i = Scanning bytes after-member houses i

@@ -3,8 +3,6 @@ use native.Mathlib.Omega.{arith}
 use borrow.Author.Needs.{needs}
 use Rattle.pool.proofs.records.taken.Statement.{statement}
 use Rattle.pool.proofs.records.taken.Tie as tie
-use Rattle.pool.proofs.records.taken.Reads as reads
-use Rattle.pool.proofs.records.taken.Lts as lts
 
 shared-slice-read-low : tie.Need-shared-slice-read-low
 shared-slice-read-low c = search needs

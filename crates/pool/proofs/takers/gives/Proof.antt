@@ -1,5 +1,5 @@
 use denote.Ref.{now}
-use mathlib.Core.Path.{sym, ap, _∙_}
+use mathlib.Core.Path.{ap, _∙_}
 use Prim.Native.Nat.{ℕ, _/_, _%_, _^_, _<_}
 use native.Mathlib.Omega.{arith}
 use Rattle.pool.specs.Records.{takenOf, classOf}
@@ -7,9 +7,6 @@ use Rattle.pool.proofs.Arcs.{gives-none, class-above, class-other, clas
 use borrow.Author.Needs.{needs}
 use Rattle.pool.proofs.takers.gives.Statement.{statement}
 use Rattle.pool.proofs.takers.gives.Tie as tie
-use Rattle.pool.proofs.takers.gives.Reads as reads
-use Rattle.pool.proofs.takers.gives.Lts as lts
-use Rattle.pool.proofs.records.taken.Reads as taken-reads
 
 shared-slice-read-class : tie.Need-shared-slice-read-class
 shared-slice-read-class c = search needs

@@ -1,7 +1,7 @@
 use borrow.Author.Needs.{needs}
 use denote.Ref.{now}
 use mathlib.Core.List.{_++_}
-use mathlib.Core.Path.{_≡_, refl, sym, ap, _∙_}
+use mathlib.Core.Path.{_≡_, refl, ap, _∙_}
 use Prim.Native.Nat.{_≤_, _-_, _/_}
 use native.Mathlib.Omega.{arith}
 use lib.ListN.{length, drop, replicate}
@@ -11,9 +11,6 @@ use Rattle.pool.proofs.Tables.{tabulate-store}
 use Rattle.pool.proofs.Arcs.{replicate-behind}
 use Rattle.pool.proofs.takers.takers.Statement.{statement}
 use Rattle.pool.proofs.takers.takers.Tie as tie
-use Rattle.pool.proofs.takers.takers.Reads as reads
-use Rattle.pool.proofs.takers.takers.Lts as lts
-use Rattle.pool.proofs.takers.takers_of.Reads as takers-of-reads
 
 abbrev Inv-loop : tie.InvT-loop
 Inv-loop bytes places gives₀ u₀ gives u = (u ≤ length bytes / 8) × (gives ≡ tabulate (takersOf (recordsIn bytes)) u ++ drop u gives₀)

@@ -10,10 +10,6 @@ use Rattle.pool.specs.Sets.{setWhere}
 use Rattle.pool.proofs.Arcs.{takes, takers-add, takers-skip, takers-done}
 use Rattle.pool.proofs.takers.takers_of.Statement.{statement}
 use Rattle.pool.proofs.takers.takers_of.Tie as tie
-use Rattle.pool.proofs.takers.takers_of.Reads as reads
-use Rattle.pool.proofs.takers.takers_of.Lts as lts
-use Rattle.pool.proofs.takers.gives.Reads as gives-reads
-use Rattle.pool.proofs.vertex_set.VertexSet.with.Reads as with-reads
 
 abbrev Inv-loop : tie.InvT-loop
 Inv-loop bytes u places giver set₀ v₀ set v = (v ≤ length bytes / 8) × (set .0 ≡ setWhere v (takes bytes u))

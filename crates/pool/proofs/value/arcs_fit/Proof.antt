@@ -1,6 +1,6 @@
 use borrow.Author.Needs.{needs}
 use borrow.Author.Count.{below-none, below-more}
-use mathlib.Core.Path.{_≡_, refl, sym, _∙_}
+use mathlib.Core.Path.{_≡_}
 use mathlib.Core.Logic.{⊎-elim}
 use Prim.Native.Nat.{ℕ, _≤_, _<_, _-_, _^_}
 use native.Mathlib.Omega.{arith}
@@ -13,8 +13,6 @@ use Rattle.pool.proofs.Operations.{one-shl}
 use Rattle.pool.proofs.ValueLaws.{takersAllowed, allowed-place, allowed-none, takers-pass, takers-fail, arcs-pass, arcs-fail}
 use Rattle.pool.proofs.value.arcs_fit.Statement.{statement}
 use Rattle.pool.proofs.value.arcs_fit.Tie as tie
-use Rattle.pool.proofs.value.arcs_fit.Reads as reads
-use Rattle.pool.proofs.value.arcs_fit.Lts as lts
 
 abbrev Inv-loop : tie.InvT-loop
 Inv-loop size altruists gives members places u₀ u = (u ≤ 14) × ((k : ℕ) → k < u → T (takersFit size altruists gives k))

@@ -1,9 +1,6 @@
 use borrow.Author.Needs.{needs}
 use Rattle.capi.proofs.answer.Answer.refused.Statement.{statement}
 use Rattle.capi.proofs.answer.Answer.refused.Tie as tie
-use Rattle.capi.proofs.answer.Answer.refused.Reads as reads
-use Rattle.capi.proofs.answer.Answer.refused.Lts as lts
-use Rattle.pool.proofs.refusal.Cause.number.Reads as number-reads
 
 number-requires : tie.Need-number-requires
 number-requires c κs = search needs

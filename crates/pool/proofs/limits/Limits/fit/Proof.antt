@@ -1,8 +1,6 @@
 use borrow.Author.Tests.{le-leb, lt-leb}
 use Rattle.pool.proofs.limits.Limits.fit.Statement.{statement}
 use Rattle.pool.proofs.limits.Limits.fit.Tie as tie
-use Rattle.pool.proofs.limits.Limits.fit.Reads as reads
-use Rattle.pool.proofs.limits.Limits.fit.Lts as lts
 
 returns : tie.Need-returns
 returns c = simp (lt-leb _ _ (c .if1 .taken))

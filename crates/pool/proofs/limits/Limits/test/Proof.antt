@@ -7,9 +7,6 @@ use Rattle.pool.proofs.Tested.{passes, fails}
 use borrow.Author.Needs.{needs}
 use Rattle.pool.proofs.limits.Limits.test.Statement.{statement}
 use Rattle.pool.proofs.limits.Limits.test.Tie as tie
-use Rattle.pool.proofs.limits.Limits.test.Reads as reads
-use Rattle.pool.proofs.limits.Limits.test.Lts as lts
-use Rattle.pool.proofs.limits.Limits.fit.Reads as fit-reads
 
 fit-requires : tie.Need-fit-requires
 fit-requires c κs = search needs

@@ -2,9 +2,6 @@ use borrow.Author.Tests.{le-leb, lt-leb}
 use borrow.Author.Needs.{needs}
 use Rattle.pool.proofs.value.Pool.fits.Statement.{statement}
 use Rattle.pool.proofs.value.Pool.fits.Tie as tie
-use Rattle.pool.proofs.value.Pool.fits.Reads as reads
-use Rattle.pool.proofs.value.Pool.fits.Lts as lts
-use Rattle.pool.proofs.value.arcs_fit.Reads as arcs-fit-reads
 
 returns : tie.Need-returns
 returns c = simp (lt-leb _ _ (c .if1 .taken))

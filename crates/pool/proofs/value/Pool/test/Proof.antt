@@ -4,9 +4,6 @@ use Rattle.pool.proofs.ValueLaws.{accepted-pool, refused-pool}
 use borrow.Author.Needs.{needs}
 use Rattle.pool.proofs.value.Pool.test.Statement.{statement}
 use Rattle.pool.proofs.value.Pool.test.Tie as tie
-use Rattle.pool.proofs.value.Pool.test.Reads as reads
-use Rattle.pool.proofs.value.Pool.test.Lts as lts
-use Rattle.pool.proofs.value.Pool.fits.Reads as fits-reads
 
 fits-requires : tie.Need-fits-requires
 fits-requires c κs = search needs

@@ -1,0 +1,40 @@
+// Clearing, for C.
+use crate::answer::Answer;
+use plans::Cleared;
+use pool::Limits;
+ghost use mathlib.Core.Path.{_≡_};
+ghost use Rattle.pool.specs.Limits.{limitsOf};
+ghost use Rattle.plans.specs.Clearing.{clearedOutcome, clearOutcome, exchangesCleared, bestCleared, planCleared};
+ghost use Rattle.capi.specs.Answers.{clearAnswer};
+
+// Members served and records written, of the plan that serves most and comes first.
+#[no_mangle]
+pub extern "C" fn swap_clear(
+    pool: &[u8],
+    lc: u8,
+    lp: u8,
+    exchanges: &mut [u16],
+    best: &mut [u8],
+    plan: &mut [u8],
+) -> Answer
+    ensures answer { λ r. ⌜ r ≡ clearAnswer (clearOutcome (now (pool .entry)) (limitsOf lc lp) (now (exchanges .entry)) (now (best .entry)) (now (plan .entry))) ⌝ }
+    ensures exchanges { λ _. ⌜ now (exchanges .exit) ≡ exchangesCleared (now (pool .entry)) (limitsOf lc lp) (now (exchanges .entry)) (now (best .entry)) (now (plan .entry)) ⌝ }
+    ensures best { λ _. ⌜ now (best .exit) ≡ bestCleared (now (pool .entry)) (limitsOf lc lp) (now (exchanges .entry)) (now (best .entry)) (now (plan .entry)) ⌝ }
+    ensures plan { λ _. ⌜ now (plan .exit) ≡ planCleared (now (pool .entry)) (limitsOf lc lp) (now (exchanges .entry)) (now (best .entry)) (now (plan .entry)) ⌝ }
+{
+    let limits = Limits {
+        cycle: lc,
+        chain: lp,
+    };
+    let cleared = plans::clear(pool, limits, exchanges, best, plan);
+    answer_of(cleared)
+}
+
+fn answer_of(cleared: Cleared) -> Answer
+    ensures { λ r. ⌜ r ≡ clearAnswer (clearedOutcome cleared) ⌝ }
+{
+    match cleared {
+        Cleared::Plan { served, records } => Answer::accepted(served as u64, records as u64),
+        Cleared::Refused(refusal) => Answer::refused(refusal),
+    }
+}

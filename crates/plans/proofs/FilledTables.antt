@@ -1,0 +1,96 @@
+-- The two tables as clearing leaves them: the best table goes by the marks of the exchange table beside it, so it holds the best of
+-- the pool's exchanges.
+use mathlib.Core.Bool.{Bool, not}
+use mathlib.Core.List.{List, _++_}
+use mathlib.Core.Path.{_≡_, refl, sym, ap, _∙_}
+use Prim.Native.Nat.{ℕ, zero, suc, _-_, _^_, _≤_, _<_}
+use native.Mathlib.Nat.{le-antisymm}
+use native.Mathlib.Omega.{arith}
+use lib.Dec.{T, eqb}
+use lib.ListN.{length, getD, take, drop}
+use lib.Pow.{pow-pos}
+use lib.Seq.{take-at}
+use borrow.Author.Tests.{le-leb}
+use Rattle.pool.specs.declared.value.Pool.{Pool}
+use Rattle.pool.specs.declared.limits.Limits.{Limits}
+use Rattle.pool.specs.Lists.{tabulate}
+use Rattle.pool.specs.Limits.{limitsFit}
+use Rattle.pool.specs.Refusals.{tested}
+use Rattle.pool.specs.Sets.{Part}
+use Rattle.pool.specs.Value.{graphOf, poolFits}
+use Rattle.tables.specs.Calls.{writtenTo, marked, membersIn, exchangesOutcome, exchangesLeft, bestOutcome, bestLeft}
+use Rattle.tables.specs.Table.{entry, marks, best, bestOf, memberWorth, served, Family}
+use Rattle.plans.specs.Lists.{flat}
+use Rattle.plans.specs.Clearing.{planOf, exchangesOf, bestsOf, TablesHold}
+use Rattle.pool.proofs.Tables.{length-tabulate, getD-tabulate}
+use Rattle.pool.proofs.Tests.{is-true}
+use Rattle.pool.proofs.Parts.{part-le}
+use Rattle.tables.proofs.BestTable.{best-attained, best-bound}
+use Rattle.plans.proofs.Answer.{answer-best}
+use Rattle.plans.proofs.BestPlan.{best-count}
+
+-- ---- marks that agree on the parts of a set give it the same best
+
+module _ (v : ℕ → ℕ) (m m′ : ℕ → Bool) (s : ℕ) where
+  best-more : ((t : ℕ) → Part t s → T (m t) → T (m′ t)) → best v m s ≤ best v m′ s
+  best-more more =
+      let (ts, family, worth) = best-attained v m s in
+      let also-family : Family m′ s ts = record {
+        each = λ t i. let k = family .each t i in record { nonempty = k .nonempty; marked = more t (k .inside) (k .marked); inside = k .inside };
+        disjoint = family .disjoint;
+      } in
+      omega (arith, worth, best-bound v m′ also-family)
+
+pub best-agrees : (v : ℕ → ℕ) (m m′ : ℕ → Bool) (s : ℕ) → ((t : ℕ) → Part t s → m t ≡ m′ t) → best v m s ≡ best v m′ s
+best-agrees v m m′ s same =
+    le-antisymm (best-more v m m′ s (λ t i k. rw (← same t i) k)) (best-more v m′ m s (λ t i k. rw (same t i) k))
+
+-- tables of functions that agree below k
+tabulate-below : (f f′ : ℕ → ℕ) (k : ℕ) → ((i : ℕ) → i < k → f i ≡ f′ i) → tabulate f k ≡ tabulate f′ k
+unfolding tabulate
+tabulate-below f f′ zero same = refl
+tabulate-below f f′ (suc k) same = rw (tabulate-below f f′ k (λ i l. same i (omega arith)), same k (omega arith))
+
+-- the front of a table that was written
+written-front : (f : ℕ → ℕ) (k : ℕ) (table : List ℕ) {left : List ℕ} → left ≡ writtenTo f k table → take k left ≡ tabulate f k
+written-front f k table e = ap (take k) e ∙ take-at (tabulate f k) (drop k table) k (length-tabulate f k)
+
+module _ (p : Pool) (l : Limits) (fits : T (poolFits p)) where
+  -- ---- the exchange table: none of 6 to 8 is met
+
+  pub exchanges-filled : (table : List ℕ) {left : List ℕ} → T (limitsFit l) → 2 ^ p .size ≤ length table → left ≡ exchangesLeft p l table → left ≡ exchangesOf p l table
+  unfolding exchangesLeft exchangesOutcome tested
+  exchanges-filled table within long e =
+      e ∙ rw (is-true (poolFits p) fits, is-true (limitsFit l) within, le-leb (2 ^ p .size) (length table) long)
+
+  -- ---- the best table over it: none of 6, 8 and 9 is met
+
+  module _ (table₀ : List ℕ) {exchanges : List ℕ} (filled : exchanges ≡ exchangesOf p l table₀) where
+    -- its marks are those of the pool
+    marks-agree : (t : ℕ) → t < 2 ^ p .size → marked exchanges t ≡ marks (graphOf p) (l .cycle) (l .chain) t
+    unfolding marks
+    marks-agree t b = ap (λ (x : ℕ). not (eqb x 0)) (ap (λ (xs : List ℕ). getD xs t 0) filled ∙ getD-tabulate (entry (graphOf p) (l .cycle) (l .chain)) (2 ^ p .size) t (drop (2 ^ p .size) table₀) b)
+
+    bests-agree : (s : ℕ) → s < 2 ^ p .size → best (membersIn p) (marked exchanges) s ≡ bestOf (memberWorth (graphOf p)) (graphOf p) (l .cycle) (l .chain) s
+    bests-agree s b = best-agrees (membersIn p) (marked exchanges) (marks (graphOf p) (l .cycle) (l .chain)) s (λ t i. marks-agree t (omega (arith, part-le i)))
+
+    pub best-filled : (table : List ℕ) {left : List ℕ} → 2 ^ p .size ≤ length exchanges → 2 ^ p .size ≤ length table → left ≡ bestLeft p exchanges table → left ≡ bestsOf p l table
+    unfolding bestLeft bestOutcome tested
+    best-filled table long also-long e =
+        e
+        ∙ rw (is-true (poolFits p) fits, le-leb (2 ^ p .size) (length exchanges) long, le-leb (2 ^ p .size) (length table) also-long)
+        (ap (λ (xs : List ℕ). xs ++ drop (2 ^ p .size) table) (tabulate-below (best (membersIn p) (marked exchanges)) (bestOf (memberWorth (graphOf p)) (graphOf p) (l .cycle) (l .chain)) (2 ^ p .size) bests-agree))
+
+    -- so the choice may go by both
+    pub filled-hold : (table : List ℕ) {left : List ℕ} → left ≡ bestsOf p l table → TablesHold p l exchanges left
+    filled-hold table e = record {
+      exchanges-hold = written-front (entry (graphOf p) (l .cycle) (l .chain)) (2 ^ p .size) table₀ filled;
+      best-hold = written-front (bestOf (memberWorth (graphOf p)) (graphOf p) (l .cycle) (l .chain)) (2 ^ p .size) table e;
+    }
+
+  -- the last entry of the best table counts the members served
+  pub last-served : (table : List ℕ) {left : List ℕ} → left ≡ bestsOf p l table → getD left (2 ^ p .size - 1) 0 ≡ served (graphOf p) (flat (planOf p l))
+  last-served table e =
+      ap (λ (xs : List ℕ). getD xs (2 ^ p .size - 1) 0) e
+      ∙ getD-tabulate (bestOf (memberWorth (graphOf p)) (graphOf p) (l .cycle) (l .chain)) (2 ^ p .size) (2 ^ p .size - 1) (drop (2 ^ p .size) table) (omega (arith, pow-pos (p .size)))
+      ∙ sym (best-count (graphOf p) (l .cycle) (l .chain) (memberWorth (graphOf p)) (answer-best (graphOf p) (l .cycle) (l .chain) (memberWorth (graphOf p))))

@@ -1,0 +1,101 @@
+// From the bytes of the two files to the whole text.
+use crate::lines::put_records;
+use crate::lines::put_refused;
+use crate::lines::put_served;
+use crate::writing::put;
+use plans::Cleared;
+use plans::clear;
+use pool::Cause;
+use pool::Limits;
+use pool::Pool;
+use pool::Refusal;
+use pool::Verdict;
+use pool::read_pool;
+ghost use mathlib.Core.Path.{_≡_};
+ghost use Prim.Native.Nat.{_≤_};
+ghost use lib.ListN.{length};
+ghost use Rattle.pool.specs.Records.{readPool};
+ghost use Rattle.pool.specs.Refusals.{accepted};
+ghost use Rattle.report.specs.Text.{reportedOf, textOf, textOutcome, textLeft, wholeText};
+ghost use Rattle.report.specs.Writing.{Adds, clearedText, wholeOutcome, wholeLeft};
+
+pub enum Reported {
+    // How long the text is that stands at the front of the buffer.
+    Length(usize),
+    // The buffer has no room for the whole text.
+    TooShort,
+}
+
+// Writes the whole text to the front of the buffer, if there is room for all of it; 1024 bytes always are enough. The first 128 bytes of
+// the pool file count as the whole file.
+pub fn report(pool: &[u8], limits: &[u8], out: &mut [u8]) -> Reported
+    ensures length { λ r. ⌜ reportedOf r ≡ textOutcome (now (pool .entry)) (now (limits .entry)) (length (now (out .entry))) ⌝ }
+    ensures text { λ _. ⌜ now (out .exit) ≡ textLeft (now (pool .entry)) (now (limits .entry)) (now (out .entry)) ⌝ }
+    ensures short { λ _. ⌜ length (textOf (now (pool .entry)) (now (limits .entry))) ≤ 1024 ⌝ }
+{
+    if 128 < pool.len() {
+        return report_whole(&pool[..128], limits, out);
+    }
+    report_whole(pool, limits, out)
+}
+
+fn report_whole(pool: &[u8], limits: &[u8], out: &mut [u8]) -> Reported
+    ensures length { λ r. ⌜ reportedOf r ≡ wholeOutcome (now (pool .entry)) (now (limits .entry)) (length (now (out .entry))) ⌝ }
+    ensures text { λ _. ⌜ now (out .exit) ≡ wholeLeft (now (pool .entry)) (now (limits .entry)) (now (out .entry)) ⌝ }
+    ensures short { λ _. ⌜ length (wholeText (now (pool .entry)) (now (limits .entry))) ≤ 1024 ⌝ }
+{
+    let mut text = [0u8; 1024];
+    let length = compose(pool, limits, &mut text);
+    if out.len() < length {
+        return Reported::TooShort;
+    }
+    put(out, 0, &text[..length]);
+    Reported::Length(length)
+}
+
+// The text: a refused pool first, then limits that are not two bytes, then what clearing answers.
+fn compose(pool: &[u8], limits: &[u8], text: &mut [u8]) -> usize
+    requires { ⌜ length (now text) ≡ 1024 ⌝ }
+    ensures { λ r. ⌜ Adds 1024 (now (text .entry)) (now (text .exit)) 0 r (wholeText (now (pool .entry)) (now (limits .entry))) ⌝ }
+{
+    let read = read_pool(pool);
+    let verdict = read.verdict;
+    if let Verdict::Refused(refusal) = verdict {
+        return put_refused(text, 0, refusal);
+    }
+    if limits.len() != 2 {
+        return put_refused(
+            text,
+            0,
+            Refusal {
+                cause: Cause::Limit,
+                at: 0,
+            },
+        );
+    }
+    let value = read.pool;
+    let both = Limits {
+        cycle: limits[0],
+        chain: limits[1],
+    };
+    compose_cleared(pool, value, both, text)
+}
+
+// The text of a pool that was read, under limits of two bytes.
+fn compose_cleared(pool: &[u8], value: Pool, limits: Limits, text: &mut [u8]) -> usize
+    requires { ⌜ accepted value ≡ readPool (now pool) ⌝ }
+    requires { ⌜ length (now text) ≡ 1024 ⌝ }
+    ensures { λ r. ⌜ Adds 1024 (now (text .entry)) (now (text .exit)) 0 r (clearedText value limits) ⌝ }
+{
+    let mut exchanges = [0u16; 16384];
+    let mut best = [0u8; 16384];
+    let mut plan = [0u8; 224];
+    let cleared = clear(pool, limits, &mut exchanges, &mut best, &mut plan);
+    match cleared {
+        Cleared::Plan { served, records } => {
+            let end = put_served(text, 0, served, value.size - value.altruists);
+            put_records(text, end, &plan, records)
+        }
+        Cleared::Refused(refusal) => put_refused(text, 0, refusal),
+    }
+}

@@ -1,0 +1,149 @@
+use borrow.Author.Needs.{needs}
+use mathlib.Core.Path.{ap, _∙_}
+use Prim.Native.Nat.{_≤_, _<_, _^_}
+use native.Mathlib.Omega.{arith}
+use denote.Ref.{now}
+use lib.Dec.{T}
+use lib.ListN.{length}
+use Rattle.pool.specs.Refusals.{accepted}
+use Rattle.pool.specs.Limits.{limitsFit}
+use Rattle.pool.specs.Value.{graphOf, poolFits}
+use Rattle.tables.specs.Table.{entry}
+use Rattle.tables.specs.Filling.{ends}
+use Rattle.tables.specs.Passes.{Prepared}
+use Rattle.pool.proofs.Tested.{outcome-accepted, outcome-refused}
+use Rattle.pool.proofs.ValueLaws.{fits-size}
+use Rattle.pool.proofs.Accepted.{pool-fits, limits-fit}
+use Rattle.tables.proofs.Preparing.{entries-are}
+use Rattle.tables.proofs.PassTwo.{written-once, written-twice}
+use Rattle.tables.proofs.ExchangesCall.{refused-by-pool, refused-by-limits, refused-short, accepted-all, left-alone, left-filled}
+use Rattle.tables.proofs.exchanges.fill_exchanges.Statement.{statement}
+use Rattle.tables.proofs.exchanges.fill_exchanges.Tie as tie
+
+test-requires : tie.Need-test-requires
+test-requires c κs = search needs
+
+enum-known-pool-verdict : tie.Need-enum-known-pool-verdict
+enum-known-pool-verdict c = search needs
+
+returns : tie.Need-returns
+returns c =
+    let a = c .before .before .before .before .before .args in
+    let refusal = outcome-refused _ (c .before .pool-verdict .given .1) (c .before .before .before .test .ensures) in
+    let e = refused-by-pool (a .pool) (a .limits) (now (a .table)) refusal in
+    (e, left-alone (a .pool) (a .limits) (now (a .table)) e)
+
+enum-told : tie.Need-enum-told
+enum-told c = search needs
+
+-- the pool value passed
+fits : (c : tie.After-enum-told) → T (poolFits (c .before .before .before .before .args .pool))
+fits c = pool-fits (outcome-accepted (c .enum-told .given .1) (c .before .before .test .ensures))
+
+test-requires-2 : tie.Need-test-requires-2
+test-requires-2 c κs = search needs
+
+enum-known-limits-verdict : tie.Need-enum-known-limits-verdict
+enum-known-limits-verdict c = search needs
+
+returns-2 : tie.Need-returns-2
+returns-2 c =
+    let t = c .before .before .before in
+    let a = t .before .before .before .before .before .args in
+    let refusal = outcome-refused _ (c .before .limits-verdict .given .1) (t .test2 .ensures) in
+    let e = refused-by-limits (a .pool) (a .limits) (now (a .table)) (fits (t .before)) refusal in
+    (e, left-alone (a .pool) (a .limits) (now (a .table)) e)
+
+enum-told-2 : tie.Need-enum-told-2
+enum-told-2 c = search needs
+
+-- and so did the limits
+within : (c : tie.After-enum-told2) → T (limitsFit (c .before .before .before .before .before .before .before .args .limits))
+within c = limits-fit (outcome-accepted (c .enum-told2 .given .1) (c .before .before .test2 .ensures))
+
+cast-entries : tie.Need-cast-entries
+cast-entries c = search needs
+
+shl-entries : tie.Need-shl-entries
+shl-entries c =
+    let t = c .before .before .before .before in
+    omega (arith, fits-size (t .before .before .before .before .args .pool) (fits t))
+
+returns-3 : tie.Need-returns-3
+returns-3 c =
+    let w = c .before .before in
+    let t = w .before .before .before in
+    let a = t .before .before .before .before .args in
+    let short : length (now (a .table)) < 2 ^ a .pool .size = omega (arith, entries-are (a .pool) (fits t)) in
+    let e = refused-short (a .pool) (a .limits) (now (a .table)) (fits t) (within w) short in
+    (e, left-alone (a .pool) (a .limits) (now (a .table)) e)
+
+all-givers-requires : tie.Need-all-givers-requires
+all-givers-requires c κs = search needs
+
+slice-aggregate-fill-path-ends : tie.Need-slice-aggregate-fill-path-ends
+slice-aggregate-fill-path-ends c = search needs
+
+-- what both passes rest on, and room for all entries
+prepared : (c : tie.After-all-givers) → Prepared (c .before .before .before .before .before .before .before .before .before .before .args .pool) (c .all-givers .result)
+prepared c = record { fits = fits (c .before .before .before .before .before .before); given = c .all-givers .ensures }
+
+room : (c : tie.Else1) → let a = c .before .before .before .before .before .before .before .before .before .args in 2 ^ a .pool .size ≤ length (now (a .table))
+room c =
+    let t = c .before .before .before .before .before in
+    omega (arith, entries-are (t .before .before .before .before .args .pool) (fits t))
+
+fill-path-ends-requires : tie.Need-fill-path-ends-requires
+fill-path-ends-requires c κs = (prepared (c .before .before), room (c .before .before .before))
+
+slice-aggregate-keep-exchange-ends : tie.Need-slice-aggregate-keep-exchange-ends
+slice-aggregate-keep-exchange-ends c = search needs
+
+keep-exchange-ends-requires : tie.Need-keep-exchange-ends-requires
+keep-exchange-ends-requires c κs =
+    let f = c .before .before .before .before in
+    let g = f .before .before .before in
+    let a = g .before .before .before .before .before .before .before .before .before .before .args in (
+      prepared g,
+      (omega (arith, f .fill-path-ends .kept, room (g .before)), written-once (ends (graphOf (a .pool))) (2 ^ a .pool .size) (now (a .table)) (f .fill-path-ends .ensures)),
+    )
+
+same-length : tie.Need-same-length
+same-length c = search needs
+
+returns-4 : tie.Need-returns-4
+returns-4 c =
+    let f = c .before .before .before .before .before .before .before in
+    let o = f .before .before .before .before in
+    let w = o .before .before in
+    let t = w .before .before .before in
+    let a = t .before .before .before .before .args in
+    let e = accepted-all (a .pool) (a .limits) (now (a .table)) (fits t) (within w) (room o) in (
+      ap accepted (entries-are (a .pool) (fits t)) ∙ e,
+      written-twice (ends (graphOf (a .pool))) (2 ^ a .pool .size) (now (a .table)) (f .fill-path-ends .ensures)
+          (entry (graphOf (a .pool)) (a .limits .cycle) (a .limits .chain)) (c .before .before .keep-exchange-ends .ensures)
+          ∙ left-filled (a .pool) (a .limits) (now (a .table)) e,
+    )
+
+pub fill-exchanges-spec : {M : Type 1} → statement M
+fill-exchanges-spec =
+    tie.close
+    (tie.spec
+    test-requires
+    enum-known-pool-verdict
+    returns
+    enum-told
+    test-requires-2
+    enum-known-limits-verdict
+    returns-2
+    enum-told-2
+    cast-entries
+    shl-entries
+    returns-3
+    all-givers-requires
+    slice-aggregate-fill-path-ends
+    fill-path-ends-requires
+    slice-aggregate-keep-exchange-ends
+    keep-exchange-ends-requires
+    same-length
+    returns-4)

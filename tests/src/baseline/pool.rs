@@ -1,0 +1,103 @@
+//! Reading pool bytes and testing pool values.
+
+use crate::pools::{PoolValue, HOUSE, MEMBER, MOST_PLACES, RECORD};
+use crate::refusal::{refuse, Refusal};
+
+pub fn read_pool(bytes: &[u8]) -> Result<PoolValue, Refusal> {
+    if !bytes.len().is_multiple_of(RECORD) {
+        return refuse(1, 0);
+    }
+    let places = bytes.len() / RECORD;
+    if places > MOST_PLACES {
+        return refuse(2, 0);
+    }
+    let mut houses = 0;
+    for (at, record) in bytes.chunks_exact(RECORD).enumerate() {
+        houses += test_record(record, at, houses)?;
+    }
+    let mut gives = [0; MOST_PLACES];
+    for (set, giver) in gives.iter_mut().zip(bytes.chunks_exact(RECORD)) {
+        *set = takers_of(giver, bytes, houses);
+    }
+    Ok(PoolValue {
+        places: places as u8,
+        houses: houses as u8,
+        gives,
+    })
+}
+
+/// Returns how many houses the record is: 1 or 0.
+fn test_record(record: &[u8], at: usize, houses: usize) -> Result<usize, Refusal> {
+    let [kind, class, grade, least, ..] = *record else {
+        return refuse(1, 0);
+    };
+    let house = match kind {
+        HOUSE => true,
+        MEMBER => false,
+        _ => return refuse(3, at),
+    };
+    let takes = least != 0 || classes_taken(record) != 0;
+    if class > 31 || grade > 100 || least > 100 || house && takes {
+        return refuse(4, at);
+    }
+    if house && houses < at {
+        return refuse(5, at);
+    }
+    Ok(usize::from(house))
+}
+
+fn takers_of(giver: &[u8], bytes: &[u8], houses: usize) -> u16 {
+    let mut takers = 0;
+    for (place, taker) in bytes.chunks_exact(RECORD).enumerate().skip(houses) {
+        let takes = classes_taken(taker) >> giver[1] & 1 == 1 && giver[2] >= taker[3];
+        takers |= u16::from(takes) << place;
+    }
+    takers
+}
+
+fn classes_taken(record: &[u8]) -> u32 {
+    u32::from_le_bytes([record[4], record[5], record[6], record[7]])
+}
+
+pub fn test_value(pool: &PoolValue) -> Result<(), Refusal> {
+    let places = usize::from(pool.places);
+    if places > MOST_PLACES || pool.houses > pool.places {
+        return refuse(6, 0);
+    }
+    let members = (1u16 << places) - (1 << pool.houses);
+    let (there, beyond) = pool.gives.split_at(places);
+    if there.iter().any(|set| set & !members != 0) || beyond.iter().any(|&set| set != 0) {
+        return refuse(6, 0);
+    }
+    Ok(())
+}
+
+pub fn test_limits(lc: u8, lp: u8) -> Result<(), Refusal> {
+    if lc > 14 || lp > 14 {
+        return refuse(7, 0);
+    }
+    Ok(())
+}
+
+/// For each place the set of places that give to it.
+pub fn givers_of(pool: &PoolValue) -> [u16; MOST_PLACES] {
+    let mut givers = [0; MOST_PLACES];
+    for (giver, &takers) in pool.gives.iter().enumerate() {
+        for taker in places_in(takers) {
+            givers[taker] |= 1 << giver;
+        }
+    }
+    givers
+}
+
+/// The places of a set, rising.
+pub fn places_in(set: u16) -> impl Iterator<Item = usize> {
+    let mut rest = set;
+    std::iter::from_fn(move || {
+        let place = rest.trailing_zeros() as usize;
+        (rest != 0).then(|| {
+            rest &= rest - 1;
+            place
+        })
+    })
+}

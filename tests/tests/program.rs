@@ -1,0 +1,438 @@
+//! The workshop program on whole files: all it prints, byte for byte.
+
+use swapboard_tests::pools::*;
+use swapboard_tests::program::{printed, printed_in, text, Files, Folder};
+use swapboard_tests::random::Random;
+use swapboard_tests::samples::*;
+
+/// Lengths up to the counted 128 bytes and beyond, and some of long files.
+fn lengths() -> impl Iterator<Item = usize> {
+    (0..=160).chain([200, 255, 256, 257, 1_000, 4_096, 70_000])
+}
+
+/// Limits files that are none: of another length, or with a limit above 14.
+const BAD_LIMITS: [&[u8]; 9] = [
+    &[],
+    &[2],
+    &[2, 2, 2],
+    &[2, 2, 0, 0],
+    &[2, 2, 2, 2, 2],
+    &[15, 0],
+    &[0, 15],
+    &[255, 255],
+    &[50, 10],
+];
+
+/// The program against the oracle.
+fn compare(files: &Files) {
+    assert_eq!(printed(files), text(files), "{files:?}");
+}
+
+/// The program and the oracle against a text written by hand.
+fn expect(files: &Files, expected: &str) {
+    assert_eq!(text(files), expected, "the oracle: {files:?}");
+    assert_eq!(printed(files), expected, "{files:?}");
+}
+
+fn expect_refusal(files: &Files, number: u64, at: usize) {
+    expect(files, &format!("refused {number} {at}\n"));
+}
+
+fn files_at_random_limits(random: &mut Random, pool: &[u8]) -> Files {
+    let limits = random_limits(random, pool.len() / RECORD);
+    Files::new(pool, limits.lc, limits.lp)
+}
+
+#[test]
+fn rows_of_the_document() {
+    let a = pool_a();
+    let two = "served 4 of 5\nchain 0 1 2\nring 3 4\n";
+    expect(&Files::new(&a, 2, 2), two);
+    expect(&Files::new(&a, 2, 3), two);
+    let long = "served 4 of 5\nchain 0 1 2 3 4\n";
+    expect(&Files::new(&a, 2, 4), long);
+    let longest = "served 5 of 5\nchain 0 1 2 3 4 5\n";
+    expect(&Files::new(&a, 2, 5), longest);
+    let rings = "served 4 of 5\nring 1 2\nring 3 4\n";
+    expect(&Files::new(&a, 2, 0), rings);
+    expect(&Files::new(&a, 0, 2), "served 2 of 5\nchain 0 1 2\n");
+    expect(&Files::new(&a, 0, 0), "served 0 of 5\n");
+    let b = "served 4 of 4\nring 0 3\nring 1 2\n";
+    expect(&Files::new(&pool_b(), 3, 0), b);
+    expect(&Files::new(&[], 3, 3), "served 0 of 0\n");
+    for (least, printed) in [(50, "served 1 of 1\nchain 0 1\n"), (51, "served 0 of 1\n")] {
+        let pool = bytes_of(&[Record::house(0, 50), Record::member(1, 50, least, 1)]);
+        expect(&Files::new(&pool, 0, 1), printed);
+    }
+}
+
+/// Every count and place from 0 to 14, those of two digits too.
+#[test]
+fn rings_and_chains_of_every_length() {
+    let places = |first: usize, last: usize| {
+        let words = (first..=last).map(|place| format!(" {place}"));
+        words.collect::<String>()
+    };
+    for members in 1..MOST_PLACES {
+        let pool = bytes_of_arcs(1, &one_ring(members + 1, 1));
+        let served = format!("served {members} of {members}\n");
+        let chain = format!("{served}chain{}\n", places(0, members));
+        let ring = format!("{served}ring{}\n", places(1, members));
+        expect(&Files::new(&pool, 0, members as u8), &chain);
+        expect(&Files::new(&pool, members as u8, 0), &ring);
+        let nothing = format!("served 0 of {members}\n");
+        expect(&Files::new(&pool, members as u8 - 1, 0), &nothing);
+    }
+    let ring = bytes_of_arcs(0, &one_ring(MOST_PLACES, 0));
+    let all = format!("served 14 of 14\nring{}\n", places(0, 13));
+    expect(&Files::new(&ring, 14, 0), &all);
+}
+
+/// Members that all give to themselves: as many records as members.
+#[test]
+fn every_number_of_records() {
+    for places in 0..=MOST_PLACES {
+        let alone: Vec<Vec<usize>> = (0..places).map(|place| vec![place]).collect();
+        let mut expected = format!("served {places} of {places}\n");
+        for place in 0..places {
+            expected += &format!("ring {place}\n");
+        }
+        expect(&Files::new(&bytes_of_arcs(0, &alone), 1, 0), &expected);
+    }
+}
+
+/// "M: all members", served or not; houses are none.
+#[test]
+fn every_number_of_houses_and_members() {
+    for places in 0..=MOST_PLACES {
+        for houses in 0..=places {
+            let pool = bytes_of_arcs(houses, &vec![Vec::new(); places]);
+            let expected = format!("served 0 of {}\n", places - houses);
+            expect(&Files::new(&pool, 14, 14), &expected);
+        }
+    }
+}
+
+/// 128 bytes are 16 records, so from there on no length is a broken one.
+fn expect_length_tested(pool: &[u8]) {
+    let files = Files::new(pool, 3, 3);
+    match pool.len() {
+        120 | 128.. => expect_refusal(&files, 2, 0),
+        length if length % RECORD != 0 => expect_refusal(&files, 1, 0),
+        _ => compare(&files),
+    }
+}
+
+/// Faultless records, cut off anywhere.
+#[test]
+fn every_length_of_the_pool() {
+    let random = &mut Random::new(501);
+    let records = bytes_of(&random_records(random, 70_000 / RECORD, 1));
+    for length in lengths() {
+        expect_length_tested(&records[..length]);
+    }
+}
+
+/// 1 and 2 come before any record is looked at.
+#[test]
+fn every_length_of_a_pool_of_any_bytes() {
+    let random = &mut Random::new(502);
+    for length in lengths() {
+        expect_length_tested(&random.bytes(length));
+    }
+}
+
+/// Lengths that would be refused by 1 if more than 128 bytes counted.
+#[test]
+fn bytes_beyond_the_first_128() {
+    let random = &mut Random::new(503);
+    let front = bytes_of(&random_records(random, 16, 2));
+    let alone = printed(&Files::new(&front, 3, 3));
+    for behind in [1, 2, 7, 8, 9, 64, 72, 127, 128, 129] {
+        for tail in [vec![0; behind], vec![255; behind], random.bytes(behind)] {
+            let whole = [&front[..], &tail].concat();
+            assert_eq!(printed(&Files::new(&whole, 3, 3)), alone, "{whole:?}");
+        }
+    }
+}
+
+#[test]
+fn missing_files() {
+    let a = Some(pool_a());
+    let limits = Some(vec![2, 2]);
+    let no_pool = Files { pool: None, limits };
+    expect(&no_pool, "served 0 of 0\n");
+    let no_limits = Files {
+        pool: a,
+        limits: None,
+    };
+    expect_refusal(&no_limits, 7, 0);
+    let nothing = Files {
+        pool: None,
+        limits: None,
+    };
+    expect_refusal(&nothing, 7, 0);
+    for limits in BAD_LIMITS {
+        let files = Files {
+            pool: None,
+            limits: Some(limits.to_vec()),
+        };
+        expect_refusal(&files, 7, 0);
+    }
+}
+
+/// Links that lead nowhere and to themselves: neither can be opened.
+#[cfg(unix)]
+#[test]
+fn files_that_cannot_be_opened() {
+    use std::os::unix::fs::symlink;
+    for target in ["nowhere.bin", "pool.bin"] {
+        let folder = Folder::new();
+        symlink(target, folder.file("pool.bin")).unwrap();
+        std::fs::write(folder.file("limits.bin"), [2, 2]).unwrap();
+        assert_eq!(printed_in(folder.path()), "served 0 of 0\n", "{target}");
+    }
+    for target in ["nowhere.bin", "limits.bin"] {
+        let folder = Folder::new();
+        symlink(target, folder.file("limits.bin")).unwrap();
+        std::fs::write(folder.file("pool.bin"), pool_a()).unwrap();
+        assert_eq!(printed_in(folder.path()), "refused 7 0\n", "{target}");
+    }
+}
+
+#[test]
+fn every_short_length_of_the_limits() {
+    let lengths = (0..=20).chain([127, 128, 129, 130, 258, 4_098]);
+    for length in lengths {
+        for value in [0, 2, 14, 15] {
+            let limits = vec![value; length];
+            for pool in [pool_a(), pool_b(), Vec::new()] {
+                let files = Files::of(&pool, &limits);
+                if length != 2 || value > 14 {
+                    expect_refusal(&files, 7, 0);
+                } else {
+                    compare(&files);
+                }
+            }
+        }
+    }
+}
+
+#[test]
+fn limits_up_to_fourteen_and_no_further() {
+    let limits = [0, 1, 2, 3, 4, 5, 13, 14, 15, 16, 127, 128, 254, 255];
+    for lc in limits {
+        for lp in limits {
+            for pool in [pool_a(), pool_b(), Vec::new()] {
+                let files = Files::new(&pool, lc, lp);
+                if lc > 14 || lp > 14 {
+                    expect_refusal(&files, 7, 0);
+                } else {
+                    compare(&files);
+                }
+            }
+        }
+    }
+}
+
+/// Each wrong field of a record, with its number.
+fn faults(record: Record) -> Vec<(Record, u64)> {
+    let mut faults = Vec::new();
+    for kind in [0, 1, 67, 71, 73, 76, 78, 82, 104, 109, 255] {
+        faults.push((Record { kind, ..record }, 3));
+    }
+    for class in [32, 33, 64, 255] {
+        faults.push((Record { class, ..record }, 4));
+    }
+    for grade in [101, 128, 255] {
+        let least = grade;
+        faults.push((Record { grade, ..record }, 4));
+        faults.push((Record { least, ..record }, 4));
+    }
+    if record.kind == HOUSE {
+        faults.push((Record { least: 1, ..record }, 4));
+        for byte in 0..4 {
+            let taken = 1 << (8 * byte);
+            faults.push((Record { taken, ..record }, 4));
+        }
+    }
+    faults
+}
+
+#[test]
+fn wrong_fields_at_every_record() {
+    let random = &mut Random::new(504);
+    for at in 0..MOST_PLACES {
+        for house in [true, false] {
+            let houses = at + usize::from(house);
+            let records = random_records(random, MOST_PLACES, houses);
+            for (fault, number) in faults(records[at]) {
+                let mut records = records.clone();
+                records[at] = fault;
+                expect_refusal(&Files::new(&bytes_of(&records), 2, 2), number, at);
+            }
+        }
+    }
+}
+
+#[test]
+fn a_house_after_a_member_at_every_record() {
+    let random = &mut Random::new(505);
+    for at in 1..MOST_PLACES {
+        for houses in 0..at {
+            let mut records = random_records(random, MOST_PLACES, houses);
+            records[at] = Record::house(31, 100);
+            expect_refusal(&Files::new(&bytes_of(&records), 2, 2), 5, at);
+        }
+    }
+}
+
+/// Every value of the first four bytes of a member, those in range too.
+#[test]
+fn every_value_of_a_field() {
+    for field in 0..4 {
+        for value in 0..=255 {
+            let mut pool = pool_b();
+            pool[2 * RECORD + field] = value;
+            compare(&Files::new(&pool, 3, 0));
+        }
+    }
+}
+
+/// Two faults: the earlier record's is told, in one record the smaller number.
+#[test]
+fn the_first_of_two_faults() {
+    let random = &mut Random::new(506);
+    let fault: [fn(&mut Record); 3] = [
+        |record| record.kind = 0,
+        |record| record.class = 32,
+        |record| *record = Record::house(0, 0),
+    ];
+    for (first, number) in [(0, 3), (1, 4), (2, 5)] {
+        for second in fault {
+            let mut records = random_records(random, 12, 2);
+            fault[first](&mut records[4]);
+            second(&mut records[10]);
+            expect_refusal(&Files::new(&bytes_of(&records), 2, 2), number, 4);
+        }
+    }
+    let mut records = random_records(random, 12, 2);
+    records[11] = Record::house(32, 0);
+    expect_refusal(&Files::new(&bytes_of(&records), 2, 2), 4, 11);
+    records[11].kind = 0;
+    expect_refusal(&Files::new(&bytes_of(&records), 2, 2), 3, 11);
+}
+
+/// 1 before 2, and both before 3 to 5.
+#[test]
+fn lengths_before_records() {
+    let random = &mut Random::new(507);
+    let mut records = random_records(random, 16, 2);
+    records[0].kind = 0;
+    let pool = bytes_of(&records);
+    expect_refusal(&Files::new(&pool[..15], 2, 2), 1, 0);
+    expect_refusal(&Files::new(&pool[..127], 2, 2), 1, 0);
+    expect_refusal(&Files::new(&pool[..120], 2, 2), 2, 0);
+    expect_refusal(&Files::new(&pool, 2, 2), 2, 0);
+    expect_refusal(&Files::new(&pool[..112], 2, 2), 3, 0);
+}
+
+/// A pool with the fault of each number from 1 to 5, and its spot.
+fn faulty_pools(random: &mut Random) -> Vec<(Vec<u8>, u64, usize)> {
+    let records = random_records(random, 13, 1);
+    let altered = |fault: fn(&mut Record)| {
+        let mut records = records.clone();
+        fault(&mut records[12]);
+        bytes_of(&records)
+    };
+    vec![
+        (bytes_of(&records)[1..].to_vec(), 1, 0),
+        (bytes_of(&random_records(random, 15, 2)), 2, 0),
+        (bytes_of(&random_records(random, 25, 2)), 2, 0),
+        (altered(|record| record.kind = 0), 3, 12),
+        (altered(|record| record.least = 101), 4, 12),
+        (altered(|record| *record = Record::house(1, 1)), 5, 12),
+    ]
+}
+
+#[test]
+fn a_refused_pool_with_bad_limits() {
+    let random = &mut Random::new(508);
+    for (pool, number, at) in faulty_pools(random) {
+        for limits in BAD_LIMITS {
+            expect_refusal(&Files::of(&pool, limits), number, at);
+        }
+        let files = Files {
+            pool: Some(pool),
+            limits: None,
+        };
+        expect_refusal(&files, number, at);
+    }
+}
+
+/// Against the brute force over all legal plans.
+#[test]
+fn random_pools_of_up_to_seven_places() {
+    let random = &mut Random::new(509);
+    for (places, pools) in [(0, 5), (1, 30), (2, 60), (3, 100)] {
+        compare_pools(random, places, pools);
+    }
+    for (places, pools) in [(4, 150), (5, 150), (6, 100), (7, 80)] {
+        compare_pools(random, places, pools);
+    }
+}
+
+fn compare_pools(random: &mut Random, places: usize, pools: usize) {
+    for _ in 0..pools {
+        let pool = bytes_of_pool(&some_pool(random, places));
+        compare(&files_at_random_limits(random, &pool));
+    }
+}
+
+/// Records with random fields as they are, grades and classes above 13 too.
+#[test]
+fn random_records_of_up_to_seven_places() {
+    let random = &mut Random::new(510);
+    for round in 0..200 {
+        let pool = random_pool(random, round % 8);
+        compare(&files_at_random_limits(random, &pool));
+    }
+}
+
+/// Many equal places, so that many plans serve most and only bytes decide.
+#[test]
+fn pools_of_many_ties() {
+    let random = &mut Random::new(511);
+    for round in 0..150 {
+        let places = 4 + round % 3;
+        let houses = random.between(0, 3);
+        let percent = random.pick(&[80, 100]);
+        let gives = random_arcs(random, places, houses, percent, 50);
+        let pool = bytes_of_arcs(houses, &gives);
+        let limit = |random: &mut Random| random.between(0, 3) as u8;
+        compare(&Files::new(&pool, limit(random), limit(random)));
+    }
+}
+
+/// Against the second methods, which the tests of clearing hold to the brute force.
+#[test]
+fn random_pools_of_eight_to_fourteen_places() {
+    let random = &mut Random::new(512);
+    for round in 0..70 {
+        let places = 8 + round % 7;
+        let pool = bytes_of_pool(&some_pool(random, places));
+        let limit = |random: &mut Random| random.between(0, 4) as u8;
+        compare(&Files::new(&pool, limit(random), limit(random)));
+    }
+}
+
+#[test]
+fn damaged_pools() {
+    let random = &mut Random::new(513);
+    for _ in 0..300 {
+        let places = random.between(1, 6);
+        let mut pool = random_pool(random, places);
+        damage(random, &mut pool);
+        compare(&files_at_random_limits(random, &pool));
+    }
+}
