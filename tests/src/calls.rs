@@ -1,4 +1,4 @@
-//! The C interface and its safe wrappers; nothing else is unsafe.
+//! The C interface and its safe wrappers.
 
 use crate::oracle::exchange::Limits;
 use crate::pools::PoolValue;

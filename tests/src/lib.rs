@@ -1,6 +1,7 @@
 //! A brute force of the swap board and the C interface it is compared with.
 
 pub mod baseline;
+pub mod bench_pools;
 pub mod calls;
 pub mod large;
 pub mod lent;
@@ -12,4 +13,5 @@ pub mod program;
 pub mod random;
 pub mod refusal;
 pub mod samples;
+pub mod search;
 pub mod timing;

@@ -220,3 +220,19 @@ pub fn all_arcs(places: usize, houses: usize, to_itself: bool) -> Vec<Vec<usize>
     };
     (0..places).map(takers).collect()
 }
+
+/// Each place gives to all above it, so nothing comes round.
+pub fn rising_arcs(places: usize) -> Vec<Vec<usize>> {
+    (0..places)
+        .map(|giver| (giver + 1..places).collect())
+        .collect()
+}
+
+/// All of a layer give to all of the next, the last layer to the first.
+pub fn layers(layers: usize, size: usize) -> Vec<Vec<usize>> {
+    let takers = |giver: usize| {
+        let next = (giver / size + 1) % layers;
+        (next * size..(next + 1) * size).collect()
+    };
+    (0..layers * size).map(takers).collect()
+}

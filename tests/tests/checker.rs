@@ -368,16 +368,13 @@ fn records_beyond_any_legal_number() {
 #[test]
 fn limits_up_to_fourteen_and_no_further() {
     let random = &mut Random::new(412);
-    for lc in [0, 1, 14, 15, 128, 255] {
-        for lp in [0, 1, 14, 15, 128, 255] {
-            let limits = Limits::new(lc, lp);
-            if lc > 14 || lp > 14 {
-                expect_refused(random, &pool_a(), limits, &[], 7, 0);
-                expect_refused(random, &pool_a(), limits, &[255; 5], 7, 0);
-                expect_refused(random, &pool_a(), limits, &[255; 16], 7, 0);
-            } else {
-                expect_served(random, &pool_a(), limits, &[], 0);
-            }
+    for limits in limits_around_fourteen() {
+        if limits.lc > 14 || limits.lp > 14 {
+            expect_refused(random, &pool_a(), limits, &[], 7, 0);
+            expect_refused(random, &pool_a(), limits, &[255; 5], 7, 0);
+            expect_refused(random, &pool_a(), limits, &[255; 16], 7, 0);
+        } else {
+            expect_served(random, &pool_a(), limits, &[], 0);
         }
     }
 }

@@ -1,5 +1,7 @@
 //! Clearing: plan, counts, both tables and all memory it must leave alone.
 
+use swapboard_tests::baseline::clear::{self as baseline, Workspace};
+use swapboard_tests::bench_pools::{pools_of_fourteen, pools_of_six, BenchPool};
 use swapboard_tests::calls::{clear, Answer};
 use swapboard_tests::large;
 use swapboard_tests::lent::Lent;
@@ -62,6 +64,32 @@ fn compare_with_second_methods(random: &mut Random, bytes: &[u8], limits: Limits
     let rooms = Rooms::needed(pool.places);
     let expected = Ok(large::cleared(&pool, limits));
     expect_cleared(random, bytes, limits, rooms, &expected);
+}
+
+/// What the baseline leaves.
+fn cleared_by_baseline(pool: &Pool, limits: Limits) -> Cleared {
+    let rooms = Rooms::needed(pool.places);
+    let mut exchanges = vec![0; rooms.exchanges];
+    let mut best = vec![0; rooms.best];
+    let mut plan = vec![0; rooms.plan];
+    let (served, records) = baseline::clear(
+        &bytes_of_pool(pool),
+        limits.lc,
+        limits.lp,
+        &mut exchanges,
+        &mut best,
+        &mut plan,
+        &mut Workspace::default(),
+    )
+    .expect("a faultless pool");
+    plan.truncate(16 * records);
+    Cleared {
+        served,
+        records,
+        exchanges,
+        best,
+        plan,
+    }
 }
 
 /// The plan bytes of records given as letters: `R` or `C`, and their places.
@@ -167,8 +195,11 @@ fn second_methods_agree_with_all_plans() {
         let places = round % 7;
         let pool = some_pool(random, places);
         let limits = random_limits(random, places);
+        let expected = cleared(&pool, limits);
         let second = large::cleared(&pool, limits);
-        assert_eq!(second, cleared(&pool, limits), "{pool:?} {limits:?}");
+        assert_eq!(second, expected, "{pool:?} {limits:?}");
+        let baseline = cleared_by_baseline(&pool, limits);
+        assert_eq!(baseline, expected, "{pool:?} {limits:?}");
     }
 }
 
@@ -220,24 +251,315 @@ fn one_ring_and_complete_pools_of_every_size() {
     }
 }
 
+/// Nothing is served, and nothing stands in either table.
+fn expect_nothing(random: &mut Random, houses: usize, gives: &[Vec<usize>], limits: Limits) {
+    let places = gives.len();
+    let nothing = Cleared {
+        served: 0,
+        records: 0,
+        exchanges: vec![0; 1 << places],
+        best: vec![0; 1 << places],
+        plan: Vec::new(),
+    };
+    let bytes = bytes_of_arcs(houses, gives);
+    expect_cleared(random, &bytes, limits, Rooms::needed(places), &Ok(nothing));
+}
+
 #[test]
 fn pools_without_any_exchange() {
     let random = &mut Random::new(310);
     for places in 0..=MOST_PLACES {
-        let rising: Vec<Vec<usize>> = (0..places)
-            .map(|giver| (giver + 1..places).collect())
-            .collect();
-        for gives in [rising, vec![Vec::new(); places]] {
-            let bytes = bytes_of_arcs(0, &gives);
-            let nothing = Cleared {
-                served: 0,
-                records: 0,
-                exchanges: vec![0; 1 << places],
-                best: vec![0; 1 << places],
-                plan: Vec::new(),
+        let most = Limits::new(14, 14);
+        expect_nothing(random, 0, &rising_arcs(places), most);
+        expect_nothing(random, 0, &vec![Vec::new(); places], most);
+        for houses in [0, places / 3, places] {
+            let complete = all_arcs(places, houses, true);
+            expect_nothing(random, houses, &complete, Limits::new(0, 0));
+            let rising = &rising_arcs(places);
+            expect_nothing(random, houses, rising, Limits::new(14, 0));
+        }
+    }
+}
+
+/// Rings only of lengths that the limit forbids, in pools of many arcs.
+#[test]
+fn rings_all_too_long() {
+    let random = &mut Random::new(317);
+    for (number, size) in [(2, 7), (3, 4), (4, 3), (5, 2), (7, 2), (13, 1), (14, 1)] {
+        for limit in 0..number as u8 {
+            expect_nothing(random, 0, &layers(number, size), Limits::new(limit, 14));
+        }
+    }
+}
+
+/// Against the second methods and a plan written by hand.
+fn expect_plan(
+    random: &mut Random,
+    houses: usize,
+    gives: &[Vec<usize>],
+    limits: Limits,
+    records: &[(char, &[u8])],
+) {
+    let bytes = bytes_of_arcs(houses, gives);
+    let expected = large::cleared(&read(&bytes).unwrap(), limits);
+    let case = (gives, limits);
+    assert_eq!(expected.plan, plan_of(records), "by hand: {case:?}");
+    let rooms = Rooms::needed(gives.len());
+    expect_cleared(random, &bytes, limits, rooms, &Ok(expected));
+}
+
+/// The lowest places lead everywhere and nothing leads back to them: all are left out, one
+/// after the other, before the only exchange, which is among the highest.
+#[test]
+fn one_exchange_behind_places_left_out() {
+    let random = &mut Random::new(318);
+    let most = Limits::new(14, 14);
+    let numbers: Vec<u8> = (0..MOST_PLACES as u8).collect();
+    for places in 2..=MOST_PLACES {
+        for first in [places - 2, places - 1, places / 2] {
+            let mut ring = rising_arcs(places);
+            ring[places - 1].push(first);
+            let record = ('R', &numbers[first..places]);
+            expect_plan(random, 0, &ring, most, &[record]);
+        }
+        for houses in 1..places {
+            let mut chain = rising_arcs(places);
+            chain[..houses - 1].iter_mut().for_each(Vec::clear);
+            let record = ('C', &numbers[houses - 1..places]);
+            expect_plan(random, houses, &chain, most, &[record]);
+        }
+    }
+}
+
+/// Arcs along a random ring, among places that only give to it or only take from it and
+/// come round nowhere. At its very length it is the plan; one below there is none.
+#[test]
+fn one_ring_hidden_among_arcs_that_lead_nowhere() {
+    let random = &mut Random::new(319);
+    for round in 0..70 {
+        let places = 1 + round % MOST_PLACES;
+        let mut order: Vec<usize> = (0..places).collect();
+        random.shuffle(&mut order);
+        let before = random.below(places);
+        let behind = random.between(before + 1, places);
+        let ring = before..behind;
+        let mut gives = vec![Vec::new(); places];
+        for at in 0..places {
+            for later in at + 1..places {
+                let along = ring.contains(&at) && ring.contains(&later);
+                if later == at + 1 && along || !along && random.chance(70) {
+                    gives[order[at]].push(order[later]);
+                }
+            }
+        }
+        gives[order[behind - 1]].push(order[before]);
+        let mut list: Vec<u8> = order[ring].iter().map(|&place| place as u8).collect();
+        let lowest = (0..list.len()).min_by_key(|&at| list[at]).unwrap();
+        list.rotate_left(lowest);
+        let length = list.len() as u8;
+        let just_enough = Limits::new(length, 14);
+        expect_plan(random, 0, &gives, just_enough, &[('R', &list)]);
+        expect_nothing(random, 0, &gives, Limits::new(length - 1, 14));
+    }
+}
+
+/// The house gives to all. Each member gives to the next in a random order and back to all
+/// before it but the first, so that one chain serves all and very many come to nothing.
+#[test]
+fn one_chain_hidden_among_ways_back() {
+    let random = &mut Random::new(320);
+    for round in 0..52 {
+        let members = 1 + round % 13;
+        let mut order: Vec<usize> = (1..=members).collect();
+        random.shuffle(&mut order);
+        let mut gives = vec![order.clone()];
+        gives.resize(members + 1, Vec::new());
+        for at in 0..members {
+            let back = order[..at].iter().skip(1);
+            gives[order[at]] = order[at + 1..]
+                .iter()
+                .take(1)
+                .chain(back)
+                .copied()
+                .collect();
+        }
+        order.insert(0, 0);
+        let chain: Vec<u8> = order.iter().map(|&place| place as u8).collect();
+        let just_enough = Limits::new(0, members as u8);
+        expect_plan(random, 1, &gives, just_enough, &[('C', &chain)]);
+        let bytes = bytes_of_arcs(1, &gives);
+        let one_below = Limits::new(0, members as u8 - 1);
+        compare_with_second_methods(random, &bytes, one_below);
+        compare_with_second_methods(random, &bytes, Limits::new(members as u8 / 2, one_below.lp));
+    }
+}
+
+/// All give to all, but only the highest to the lowest: every ring of the lowest needs both.
+#[test]
+fn the_one_ring_that_needs_the_highest_place() {
+    let random = &mut Random::new(321);
+    let numbers: Vec<u8> = (0..MOST_PLACES as u8).collect();
+    for places in 2..=MOST_PLACES {
+        let mut gives = all_arcs(places, 0, false);
+        for takers in &mut gives[1..places - 1] {
+            takers.retain(|&taker| taker != 0);
+        }
+        let all = Limits::new(places as u8, 0);
+        expect_plan(random, 0, &gives, all, &[('R', &numbers[..places])]);
+        let bytes = bytes_of_arcs(0, &gives);
+        for limit in [places as u8 - 1, 3, 2] {
+            compare_with_second_methods(random, &bytes, Limits::new(limit, 0));
+        }
+    }
+}
+
+/// Paths that fail in one round, or in one order, and are right in another.
+#[test]
+fn ways_that_fail_only_at_first() {
+    let arcs = |places: usize, arcs: &[(usize, usize)]| {
+        let mut gives = vec![Vec::new(); places];
+        for &(giver, taker) in arcs {
+            gives[giver].push(taker);
+        }
+        gives
+    };
+    // 0 1 2 3 does not come back to 0; without 0 it is a ring.
+    let shared = [(0, 1), (1, 2), (2, 3), (3, 1), (0, 4), (4, 0)];
+    let pool = bytes_of_arcs(0, &arcs(5, &shared));
+    expect_row(&pool, 3, 0, 5, &[('R', &[0, 4]), ('R', &[1, 2, 3])]);
+    // The same behind a house, whose chain must leave the ring to the next round.
+    let behind = [(0, 1), (1, 2), (2, 3), (3, 1), (0, 4), (4, 5), (5, 6)];
+    let pool = bytes_of_arcs(1, &arcs(7, &behind));
+    let records: [(char, &[u8]); 2] = [('C', &[0, 4, 5, 6]), ('R', &[1, 2, 3])];
+    expect_row(&pool, 3, 3, 6, &records);
+    // 2 3 is a dead end behind 0, and the way behind 1.
+    let next = [(0, 2), (2, 3), (3, 1), (1, 2), (0, 4), (4, 0)];
+    let pool = bytes_of_arcs(0, &arcs(5, &next));
+    expect_row(&pool, 4, 0, 5, &[('R', &[0, 4]), ('R', &[1, 2, 3])]);
+    // 0 1 2 ends there and 0 2 1 goes on: the same set, another last place.
+    let orders = [(0, 1), (1, 2), (0, 2), (2, 1), (1, 3), (3, 0)];
+    let pool = bytes_of_arcs(0, &arcs(4, &orders));
+    expect_row(&pool, 4, 0, 4, &[('R', &[0, 2, 1, 3])]);
+    // 3 is a dead end behind 1, where 2 is lost, and the way behind 2.
+    let places = [(0, 1), (1, 3), (3, 4), (4, 0), (0, 2), (2, 1)];
+    let pool = bytes_of_arcs(0, &arcs(5, &places));
+    expect_row(&pool, 5, 0, 5, &[('R', &[0, 2, 1, 3, 4])]);
+    // Three rounds: each ring is a way that failed in the round before.
+    let rounds = [
+        (0, 1),
+        (1, 2),
+        (2, 1),
+        (2, 3),
+        (3, 4),
+        (4, 3),
+        (0, 5),
+        (5, 0),
+    ];
+    let pool = bytes_of_arcs(0, &arcs(6, &rounds));
+    let records: [(char, &[u8]); 3] = [('R', &[0, 5]), ('R', &[1, 2]), ('R', &[3, 4])];
+    expect_row(&pool, 4, 0, 6, &records);
+}
+
+/// Some members are traps: they give to traps alone. Every path of another that enters them
+/// fails, at the end of all ways through them; later rounds make rings of the same paths.
+fn pool_with_traps(random: &mut Random, places: usize) -> Pool {
+    let houses = random.between(0, 2);
+    let is_trap: Vec<bool> = (0..places).map(|_| random.chance(60)).collect();
+    let mut gives = vec![Vec::new(); places];
+    for giver in 0..places {
+        for taker in houses..places {
+            let percent = match (giver >= houses && is_trap[giver], is_trap[taker]) {
+                (true, true) => 80,
+                (true, false) => 0,
+                (false, true) => 70,
+                (false, false) => 40,
             };
-            let limits = Limits::new(14, 14);
-            expect_cleared(random, &bytes, limits, Rooms::needed(places), &Ok(nothing));
+            if giver != taker && random.chance(percent) {
+                gives[giver].push(taker);
+            }
+        }
+    }
+    pool_with(places, houses, gives)
+}
+
+#[test]
+fn dead_ends_shared_by_many_paths() {
+    let random = &mut Random::new(322);
+    for (places, pools) in [(4, 100), (5, 200), (6, 150), (7, 25)] {
+        for _ in 0..pools {
+            let pool = pool_with_traps(random, places);
+            let limits = Limits::new(random.between(1, 7) as u8, random.between(1, 7) as u8);
+            compare_with_all_plans(random, &pool, limits);
+        }
+    }
+    for (places, pools) in [(9, 40), (11, 40), (13, 20), (14, 30)] {
+        for _ in 0..pools {
+            let bytes = bytes_of_pool(&pool_with_traps(random, places));
+            let limits = Limits::new(random.between(1, 14) as u8, random.between(1, 14) as u8);
+            compare_with_second_methods(random, &bytes, limits);
+        }
+    }
+}
+
+/// The pools of the benchmark, as they are and with other limits and the members numbered
+/// anew.
+#[test]
+fn pools_of_the_benchmark() {
+    let random = &mut Random::new(323);
+    for BenchPool { pool, limits, .. } in pools_of_six() {
+        compare_with_all_plans(random, &pool, limits);
+    }
+    for BenchPool { pool, limits, .. } in pools_of_fourteen() {
+        compare_with_second_methods(random, &bytes_of_pool(&pool), limits);
+        let renumbered = renumbered(random, &pool);
+        compare_with_second_methods(random, &bytes_of_pool(&renumbered), limits);
+        let other = random_limits(random, 12);
+        compare_with_second_methods(random, &bytes_of_pool(&renumbered), other);
+    }
+}
+
+/// Complete pools: of all sets that the limits allow, and of all lists, only bytes decide.
+#[test]
+fn complete_pools_at_every_limit() {
+    let random = &mut Random::new(324);
+    for places in 1..=5 {
+        for houses in 0..=places.min(2) {
+            let pool = pool_with(places, houses, all_arcs(places, houses, places % 2 == 0));
+            for limits in limits_that_matter(places) {
+                compare_with_all_plans(random, &pool, limits);
+            }
+        }
+    }
+    for houses in [0, 1, 4] {
+        let bytes = bytes_of_arcs(houses, &all_arcs(14, houses, houses == 1));
+        for limit in 0..=14 {
+            compare_with_second_methods(random, &bytes, Limits::new(limit, 14 - limit));
+        }
+    }
+}
+
+/// Members of one sort differ in nothing but their place; there are one to three sorts.
+#[test]
+fn identical_members() {
+    let random = &mut Random::new(325);
+    for round in 0..200 {
+        let places = if round < 150 { 3 + round % 4 } else { 14 };
+        let houses = random.between(0, 2);
+        let sorts = random.between(1, 3);
+        let taken: Vec<u32> = (0..sorts).map(|_| random.between(0, 7) as u32).collect();
+        let record = |place: usize| {
+            let sort = random.below(sorts);
+            if place < houses {
+                return Record::house(sort as u8, 50);
+            }
+            Record::member(sort as u8, 50, 50, taken[sort])
+        };
+        let pool = read(&bytes_of(&(0..places).map(record).collect::<Vec<_>>())).unwrap();
+        let limits = Limits::new(random.between(0, 4) as u8, random.between(0, 4) as u8);
+        if places < 14 {
+            compare_with_all_plans(random, &pool, limits);
+        } else {
+            compare_with_second_methods(random, &bytes_of_pool(&pool), limits);
         }
     }
 }
@@ -312,34 +634,13 @@ fn rooms_of_fourteen_places() {
 fn limits_up_to_fourteen_and_no_further() {
     let random = &mut Random::new(314);
     let bytes = bytes_of_pool(&some_pool(random, 5));
-    let limits = [0, 1, 13, 14, 15, 16, 128, 254, 255];
-    for lc in limits {
-        for lp in limits {
-            let limits = Limits::new(lc, lp);
-            let rooms = Rooms::needed(5);
-            if lc > 14 || lp > 14 {
-                expect_cleared(random, &bytes, limits, rooms, &refuse(7, 0));
-            }
-            compare_in_rooms(random, &bytes, limits, rooms);
+    for limits in limits_around_fourteen() {
+        let rooms = Rooms::needed(5);
+        if limits.lc > 14 || limits.lp > 14 {
+            expect_cleared(random, &bytes, limits, rooms, &refuse(7, 0));
         }
+        compare_in_rooms(random, &bytes, limits, rooms);
     }
-}
-
-/// A pool of four members with the fault of each number from 1 to 5, and its spot.
-fn faulty_pools(random: &mut Random) -> Vec<(Vec<u8>, u64, usize)> {
-    let records = random_records(random, 4, 0);
-    let altered = |fault: fn(&mut Record)| {
-        let mut records = records.clone();
-        fault(&mut records[2]);
-        bytes_of(&records)
-    };
-    vec![
-        (bytes_of(&records)[1..].to_vec(), 1, 0),
-        (bytes_of(&random_records(random, 15, 2)), 2, 0),
-        (altered(|record| record.kind = 0), 3, 2),
-        (altered(|record| record.grade = 101), 4, 2),
-        (altered(|record| *record = Record::house(1, 1)), 5, 2),
-    ]
 }
 
 /// Every choice of causes met together: the smallest number is given.
@@ -348,7 +649,7 @@ fn order_of_causes() {
     let random = &mut Random::new(315);
     let good = (bytes_of(&random_records(random, 4, 1)), 0, 0);
     let needed = Rooms::needed(4);
-    for (bytes, number, at) in faulty_pools(random).into_iter().chain([good]) {
+    for (bytes, number, at) in faulty_pools(random, 4, 0, 2).into_iter().chain([good]) {
         for causes in 0..16 {
             let met = |cause: usize| causes >> cause & 1;
             let limits = Limits::new(2, 2 + 13 * met(0) as u8);

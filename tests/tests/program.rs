@@ -1,5 +1,6 @@
 //! The workshop program on whole files: all it prints, byte for byte.
 
+use swapboard_tests::oracle::exchange::Limits;
 use swapboard_tests::pools::*;
 use swapboard_tests::program::{printed, printed_in, text, Files, Folder};
 use swapboard_tests::random::Random;
@@ -220,16 +221,13 @@ fn every_short_length_of_the_limits() {
 
 #[test]
 fn limits_up_to_fourteen_and_no_further() {
-    let limits = [0, 1, 2, 3, 4, 5, 13, 14, 15, 16, 127, 128, 254, 255];
-    for lc in limits {
-        for lp in limits {
-            for pool in [pool_a(), pool_b(), Vec::new()] {
-                let files = Files::new(&pool, lc, lp);
-                if lc > 14 || lp > 14 {
-                    expect_refusal(&files, 7, 0);
-                } else {
-                    compare(&files);
-                }
+    for Limits { lc, lp } in limits_around_fourteen() {
+        for pool in [pool_a(), pool_b(), Vec::new()] {
+            let files = Files::new(&pool, lc, lp);
+            if lc > 14 || lp > 14 {
+                expect_refusal(&files, 7, 0);
+            } else {
+                compare(&files);
             }
         }
     }
@@ -337,28 +335,10 @@ fn lengths_before_records() {
     expect_refusal(&Files::new(&pool[..112], 2, 2), 3, 0);
 }
 
-/// A pool with the fault of each number from 1 to 5, and its spot.
-fn faulty_pools(random: &mut Random) -> Vec<(Vec<u8>, u64, usize)> {
-    let records = random_records(random, 13, 1);
-    let altered = |fault: fn(&mut Record)| {
-        let mut records = records.clone();
-        fault(&mut records[12]);
-        bytes_of(&records)
-    };
-    vec![
-        (bytes_of(&records)[1..].to_vec(), 1, 0),
-        (bytes_of(&random_records(random, 15, 2)), 2, 0),
-        (bytes_of(&random_records(random, 25, 2)), 2, 0),
-        (altered(|record| record.kind = 0), 3, 12),
-        (altered(|record| record.least = 101), 4, 12),
-        (altered(|record| *record = Record::house(1, 1)), 5, 12),
-    ]
-}
-
 #[test]
 fn a_refused_pool_with_bad_limits() {
     let random = &mut Random::new(508);
-    for (pool, number, at) in faulty_pools(random) {
+    for (pool, number, at) in faulty_pools(random, 13, 1, 12) {
         for limits in BAD_LIMITS {
             expect_refusal(&Files::of(&pool, limits), number, at);
         }

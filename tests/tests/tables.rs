@@ -1,6 +1,8 @@
 //! Filling the exchange table and the best table.
 
 use std::fmt::Debug;
+use swapboard_tests::baseline::tables as baseline;
+use swapboard_tests::bench_pools::{pools_of_fourteen, BenchPool};
 use swapboard_tests::calls::{fill_best, fill_exchanges, Answer};
 use swapboard_tests::large::{best_by_lowest_place, entry_by_search, exchanges_by_paths};
 use swapboard_tests::lent::{Garbage, Lent};
@@ -269,11 +271,119 @@ fn second_methods_agree_with_the_brute_force() {
             let found = entry_by_search(&pool, limits, &places_of(set));
             assert_eq!(found, entry, "{pool:?} {limits:?} set {set}");
         }
+        assert_eq!(exchanges_by_baseline(&pool, limits), table, "{pool:?}");
         let marks = random_marks(random, 1 << places);
-        assert_eq!(
-            best_by_lowest_place(&pool, &marks),
-            best::table(&pool, &marks)
-        );
+        let table = best::table(&pool, &marks);
+        assert_eq!(best_by_lowest_place(&pool, &marks), table, "{pool:?}");
+        assert_eq!(best_by_baseline(&pool, &marks), table, "{pool:?}");
+    }
+}
+
+fn exchanges_by_baseline(pool: &Pool, limits: Limits) -> Vec<u16> {
+    let mut table = vec![0; full_entries(pool)];
+    let filled = baseline::fill_exchanges(&pool.value(), limits.lc, limits.lp, &mut table);
+    assert_eq!(filled, Ok(table.len()));
+    table
+}
+
+/// The table is cleared by the call itself.
+fn best_by_baseline(pool: &Pool, marks: &[u16]) -> Vec<u8> {
+    let mut worth = vec![255; full_entries(pool)];
+    let mut table = vec![255; full_entries(pool)];
+    let filled = baseline::fill_best(&pool.value(), marks, &mut worth, &mut table);
+    assert_eq!(filled, Ok(table.len()));
+    table
+}
+
+/// Room for the entries and some more.
+fn wide_room(random: &mut Random, pool: &Pool) -> usize {
+    full_entries(pool) + random.between(1, 40)
+}
+
+fn compare_with_baseline(random: &mut Random, pool: &Pool, limits: Limits) {
+    let room = wide_room(random, pool);
+    let expected = Ok(exchanges_by_baseline(pool, limits));
+    expect_exchanges(random, &pool.value(), limits, room, &expected);
+}
+
+/// Pools of few, of many and of all arcs, with houses and without.
+fn pools_of_all_densities(random: &mut Random, places: usize) -> Vec<Pool> {
+    let mut pools = Vec::new();
+    for percent in [25, 60, 100] {
+        let houses = random.between(0, places.min(3));
+        let gives = random_arcs(random, places, houses, percent, 50);
+        pools.push(pool_with(places, houses, gives));
+    }
+    pools
+}
+
+#[test]
+fn every_limit_up_to_seven_places() {
+    let random = &mut Random::new(224);
+    for places in 0..=7 {
+        for pool in pools_of_all_densities(random, places) {
+            for limits in all_limits() {
+                let room = wide_room(random, &pool);
+                compare_exchanges(random, &pool.value(), limits, room);
+            }
+        }
+    }
+}
+
+#[test]
+fn every_limit_at_fourteen_places() {
+    let random = &mut Random::new(225);
+    for pool in pools_of_all_densities(random, 14) {
+        for limits in all_limits() {
+            compare_with_baseline(random, &pool, limits);
+        }
+    }
+}
+
+#[test]
+fn dense_pools_of_every_size() {
+    let random = &mut Random::new(226);
+    for places in 8..=MOST_PLACES {
+        for _ in 0..20 {
+            for pool in pools_of_all_densities(random, places) {
+                let limits = random.pick(&all_limits());
+                compare_with_baseline(random, &pool, limits);
+            }
+        }
+    }
+}
+
+/// One ring of all places: the set of all is an exchange just where the limit allows it,
+/// and no other set is.
+#[test]
+fn the_one_set_of_a_shuffled_ring() {
+    let random = &mut Random::new(227);
+    for places in 1..=MOST_PLACES {
+        let ring = pool_with(places, 0, one_ring(places, 0));
+        for _ in 0..4 {
+            let pool = renumbered(random, &ring);
+            let all = full_entries(&pool) - 1;
+            let last = (0..places).find(|&giver| pool.has_arc(giver, 0)).unwrap();
+            let mut expected = vec![0; full_entries(&pool)];
+            let room = wide_room(random, &pool);
+            let below = Limits::new(places as u8 - 1, 14);
+            expect_exchanges(random, &pool.value(), below, room, &Ok(expected.clone()));
+            expected[all] = 1 << last;
+            let just_enough = Limits::new(places as u8, 0);
+            expect_exchanges(random, &pool.value(), just_enough, room, &Ok(expected));
+        }
+    }
+}
+
+#[test]
+fn pools_of_the_benchmark() {
+    let random = &mut Random::new(228);
+    for BenchPool { pool, limits, .. } in pools_of_fourteen() {
+        let value = pool.value();
+        let exchanges = exchanges_by_paths(&pool, limits);
+        let best = Ok(best_by_lowest_place(&pool, &exchanges));
+        expect_best(random, &value, &exchanges, 1 << 14, &best);
+        expect_exchanges(random, &value, limits, 1 << 14, &Ok(exchanges));
     }
 }
 
@@ -515,17 +625,13 @@ fn too_many_places_or_houses_are_refused() {
 fn limits_up_to_fourteen_and_no_further() {
     let random = &mut Random::new(221);
     let pool = some_pool(random, 4);
-    let limits = [0, 1, 13, 14, 15, 16, 128, 254, 255];
-    for lc in limits {
-        for lp in limits {
-            let limits = Limits::new(lc, lp);
-            let expected = if lc > 14 || lp > 14 {
-                refuse(7, 0)
-            } else {
-                Ok(exchange::table(&pool, limits))
-            };
-            expect_exchanges(random, &pool.value(), limits, 16, &expected);
-        }
+    for limits in limits_around_fourteen() {
+        let expected = if limits.lc > 14 || limits.lp > 14 {
+            refuse(7, 0)
+        } else {
+            Ok(exchange::table(&pool, limits))
+        };
+        expect_exchanges(random, &pool.value(), limits, 16, &expected);
     }
 }
 

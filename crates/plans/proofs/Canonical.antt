@@ -2,7 +2,7 @@
 -- no vertex in two of them. A legal plan in order is such a plan, and such a plan is legal and in order.
 use mathlib.Core.List.{List, [], _∷_, List·Memᴰ, Memᴰ·append-right}
 use mathlib.Core.Path.{_≡_}
-use Prim.Native.Nat.{_-_, ℕ, _≤_, _<_, _^_}
+use Prim.Native.Nat.{_-_, ℕ, _≤_}
 use native.Mathlib.Nat.{le-refl}
 use native.Mathlib.Omega.{arith}
 use lib.Dec.{T}
@@ -17,9 +17,9 @@ use Rattle.plans.specs.Plan.{inOrder}
 use Rattle.pool.proofs.Each.{each-append, each-map, each-first, each-append-left, each-at, each-rest, each-of, each-both}
 use Rattle.pool.proofs.ListLaws.{distinct-append}
 use Rattle.tables.proofs.Ordered.{pairwise-first, pairwise-rest}
-use Rattle.pool.proofs.SetLaws.{has-below, has-full}
+use Rattle.pool.proofs.SetLaws.{has-full}
 use Rattle.pool.proofs.Parts.{in-rest}
-use Rattle.pool.proofs.SetOf.{setOf-part, has-setOf, part-setOf, below-length}
+use Rattle.pool.proofs.SetOf.{setOf-part, has-setOf, part-setOf}
 use Rattle.tables.proofs.Walks.{lowestFirst-lower}
 use Rattle.tables.proofs.ExchangeFacts.{Told, exchange-some, exchange-distinct, exchange-below}
 use Rattle.plans.proofs.InOrder.{Rises}
@@ -99,12 +99,6 @@ module _ (g : Graph) (lc lp : ℕ) where
     where
       above-head : (y : List ℕ) → Told g lc lp y × Rises x y → Each (λ v. headOf x ≤ v) y
       above-head y h = each-map (λ v k. omega (arith, h .1)) (head-least y (h .0 .1))
-
-  -- a plan inside n vertices has at most n exchanges
-  pub plan-length : (n : ℕ) {U : ℕ} (p : List (List ℕ)) → U < 2 ^ n → Plan U p → length p ≤ n
-  plan-length n {U} p wide plan =
-      let vertices : length (flat p) ≤ n = below-length n (flat p) (plan .apart) (each-map (λ v h. has-below n U v wide h) (plan .inside)) in
-      omega (arith, flat-length (told-some (plan .told)))
 
   -- ---- legal plans
 

@@ -1,39 +1,39 @@
 -- The choice of the plan as a loop over the tables: the exchanges made so far, their records, and the vertices still free.
 use mathlib.Core.Bool.{Bool, true, false}
-use mathlib.Core.List.{List, [], _∷_, _++_, append-assoc}
+use mathlib.Core.List.{List, [], _∷_, _++_, append-assoc, List·Memᴰ·head}
 use mathlib.Core.Logic.{_≢_}
 use mathlib.Core.Path.{_≡_, refl, sym, ap, ap₂, _∙_}
 use Prim.Native.Nat.{ℕ, suc, _+_, _-_, _*_, _^_, _≤_, _<_}
 use native.Mathlib.Omega.{arith}
-use lib.Dec.{ltb}
-use lib.ListN.{length, getD, take, drop, length-append, length-take, take-append-drop}
-use lib.Pow.{pow-pos, ones-lt}
-use lib.Seq.{take-at, drop-at, drop-drop, getD-take}
+use borrow.Rule.Slice.PartMut.{midOf, putMid, put-same}
+use lib.Dec.{T, ltb}
+use lib.ListN.{length, take, drop, length-append}
+use lib.Pow.{pow-pos}
+use lib.Seq.{take-at, drop-at, drop-drop}
 use Rattle.pool.specs.declared.value.Pool.{Pool}
 use Rattle.pool.specs.declared.limits.Limits.{Limits}
-use Rattle.pool.specs.Lists.{Each, none, also, tabulate}
+use Rattle.pool.specs.Lists.{distinct, Each, none, also}
 use Rattle.pool.specs.Value.{graphOf}
 use Rattle.pool.specs.Graph.{Graph}
-use Rattle.pool.specs.Sets.{setOf, lowest, withoutVertex}
-use Rattle.tables.specs.Table.{entry, memberWorth, bestOf, everything}
+use Rattle.pool.specs.Sets.{has, Part, setOf, lowest, lowestBelow, withoutVertex}
+use Rattle.tables.specs.Table.{memberWorth, bestOf, everything}
 use Rattle.tables.specs.Exchange.{headOf}
 use Rattle.plans.specs.Plan.{insert, inOrder, recordOf, recordsOf, recordForm, answer}
-use Rattle.plans.specs.Choosing.{recordLeft}
-use Rattle.plans.specs.Clearing.{TablesHold}
-use Rattle.pool.proofs.Tables.{length-tabulate, getD-whole}
+use Rattle.plans.specs.Paths.{Field}
+use Rattle.plans.specs.Taking.{Taken, nothing, first, Clean}
 use Rattle.pool.proofs.Each.{each-map}
-use Rattle.pool.proofs.SetLaws.{lowest-is}
-use Rattle.pool.proofs.Parts.{part-le}
-use Rattle.pool.proofs.Vertices.{bit-le, or-without}
+use Rattle.pool.proofs.SetLaws.{IsLowest, lowest-is, lowest-below, has-below}
+use Rattle.pool.proofs.Parts.{part-le, part-trans, in-rest}
+use Rattle.pool.proofs.SetOf.{has-setOf}
+use Rattle.pool.proofs.Vertices.{bit-le, or-without, in-without}
 use Rattle.pool.proofs.Operations.{without-or}
-use Rattle.tables.proofs.ExchangeFacts.{Told, exchange-length}
+use Rattle.tables.proofs.ExchangeFacts.{Told, exchange-length, exchange-distinct}
 use Rattle.plans.proofs.Bytes.{records-snoc, record-length}
 use Rattle.plans.proofs.Legal.{Legal, in-order-told}
 use Rattle.plans.proofs.Answer.{best-determines, answer-best, answer-legal}
 use Rattle.plans.proofs.Canonical.{plan-in-order}
-use Rattle.plans.proofs.Greedy.{Leads, leads-start, leads-skip, leads-take, leads-done, Chosen, chosen-optimal, chosen-best, FirstGood, NoneGood}
-use Rattle.plans.proofs.Ending.{leads-room, best-nonempty}
-use Rattle.plans.proofs.TakenCode.{Meant, Took, nothing, first}
+use Rattle.plans.proofs.Greedy.{Leads, leads-start, leads-skip, leads-take, leads-done, Chosen, chosen-optimal, chosen-best, FirstGood, NoneGood, best-nonempty}
+use Rattle.plans.proofs.Completion.{Means, walk-first-good, none-good}
 
 -- ---- the length of records
 
@@ -56,14 +56,27 @@ unfolding recordsOf
 records-length g none = refl
 records-length g (also {x = x} {xs = p} h hs) = length-append (recordOf g x) (recordsOf g p) ∙ ap₂ _+_ (record-length g x h) (records-length g hs) ∙ omega arith
 
--- ---- the loop: the exchanges made lead to what is free, and their records stand at the front of the plan buffer
+-- ---- the loop
+
+-- what is clean on a set is clean on its parts
+clean-part : {U U′ : ℕ} {dead : List ℕ} → Part U′ U → Clean U dead → Clean U′ dead
+clean-part i c = record { long = c .long; none = λ S k. c .none S (part-trans k i) }
+
+-- the part of the plan buffer for the next record, and the buffer with it
+abbrev pub nextIn : List ℕ → ℕ → List ℕ
+nextIn plan records = midOf (16 * records) (16 * records + 16 - 16 * records) plan
+
+abbrev pub withNext : List ℕ → ℕ → List ℕ → List ℕ
+withNext plan records bytes = putMid (16 * records) (16 * records + 16 - 16 * records) plan bytes
+
+-- the exchanges made lead to what is free, and their records stand at the front of the plan buffer
 pub record Made (g : Graph) (lc lp : ℕ) (w : ℕ → ℕ) (plan₀ plan : List ℕ) (free records : ℕ) : Type 0 where
   pub made : List (List ℕ)
   pub leads : Leads g lc lp w (everything g) made free
-  pub count : length made ≡ records
   pub long : length (recordsOf g made) ≡ 16 * records
   pub written : plan ≡ recordsOf g made ++ drop (16 * records) plan₀
   pub inside : free < 2 ^ g .size
+  pub room : (u : ℕ) → T (has free u) → records ≤ u
 
 module _ (g : Graph) (lc lp : ℕ) (small : g .size ≤ 14) where
   -- an exchange fits into a record
@@ -80,112 +93,76 @@ module _ (g : Graph) (lc lp : ℕ) (small : g .size ≤ 14) where
     made-start plan = record {
       made = [];
       leads = leads-start g lc lp w (everything g);
-      count = refl;
       long = refl;
       written = refl;
       inside = omega (arith, pow-pos (g .size));
+      room = λ u _. omega arith;
     }
 
     module _ {plan₀ plan : List ℕ} {free records : ℕ} (m : Made g lc lp w plan₀ plan free records) where
       -- while something can be gained there is room for a record more
       pub made-room : 0 < bestOf w g lc lp free → records < g .size
-      made-room gain = omega (arith, m .count, leads-room g lc lp w {n = g .size} (m .made) (ones-lt (g .size)) gain (m .leads))
+      made-room gain =
+          let low = lowest-is free (best-nonempty g lc lp w gain) in
+          omega (arith, m .room (lowest free) (low .isIn), has-below (g .size) free (lowest free) (m .inside) (low .isIn))
 
-      -- the record lent is the next
-      module _ {bytes plan′ : List ℕ} (put : plan′ ≡ take (16 * records) plan ++ (bytes ++ drop (16 * records + 16 - 16 * records) (drop (16 * records) plan))) where
-        -- left as it was: the plan is as it was
-        same-plan : bytes ≡ take (16 * records + 16 - 16 * records) (drop (16 * records) plan) → plan′ ≡ plan
-        same-plan e =
-            put
-            ∙ ap (λ (l : List ℕ). take (16 * records) plan ++ (l ++ drop (16 * records + 16 - 16 * records) (drop (16 * records) plan))) e
-            ∙ ap (λ (l : List ℕ). take (16 * records) plan ++ l) (take-append-drop (16 * records + 16 - 16 * records) (drop (16 * records) plan))
-            ∙ take-append-drop (16 * records) plan
+      -- the record lent is the next; left as it was, the plan is as it was
+      made-skip : {bytes : List ℕ} → 0 < free → NoneGood g lc lp w free (lowest free) → bytes ≡ nextIn plan records
+          → Made g lc lp w plan₀ (withNext plan records bytes) (free - 2 ^ lowest free) records
+      made-skip some none-good e = record {
+        made = m .made;
+        leads = leads-skip g lc lp w (m .made) (lowest-is free some) none-good (m .leads);
+        long = m .long;
+        written = ap (withNext plan records) e ∙ put-same (16 * records) (16 * records + 16 - 16 * records) plan ∙ m .written;
+        inside = omega (arith, m .inside);
+        room = λ u h. m .room u (in-without free (lowest free) u (lowest-is free some .isIn) .0 h .0);
+      }
 
-        -- none is taken: the lowest vertex is left out
-        made-skip : 0 < free → NoneGood g lc lp w free (lowest free) → bytes ≡ take (16 * records + 16 - 16 * records) (drop (16 * records) plan)
-            → Made g lc lp w plan₀ plan′ (free - 2 ^ lowest free) records
-        made-skip some none-good e = record {
-          made = m .made;
-          leads = leads-skip g lc lp w (m .made) (lowest-is free some) none-good (m .leads);
-          count = m .count;
-          long = m .long;
-          written = same-plan e ∙ m .written;
-          inside = omega (arith, m .inside);
-        }
+      -- an exchange is taken: its record stands behind the others
+      made-take : {xs bytes : List ℕ} → 0 < bestOf w g lc lp free → FirstGood g lc lp w free (lowest free) xs → bytes ≡ recordOf g (lowest free ∷ xs)
+          → Made g lc lp w plan₀ (withNext plan records bytes) (free - setOf (lowest free ∷ xs)) (records + 1)
+      made-take {xs} {bytes} positive f e =
+          record {
+            made = m .made ++ x ∷ [];
+            leads = leads-take g lc lp w (m .made) positive low f (m .leads);
+            long =
+                ap length (records-snoc g (m .made) x)
+                ∙ length-append (recordsOf g (m .made)) (recordOf g x)
+                ∙ ap₂ _+_ (m .long) (record-length g x (told-short (f .good .told)))
+                ∙ omega arith;
+            written = stands;
+            inside = omega (arith, m .inside);
+            room = λ u h. let (was, new) = in-rest (f .good .inside) u .0 h in above u was (λ e. new (rw e first-in));
+          }
+        where
+          x : List ℕ
+          x = lowest free ∷ xs
 
-        -- an exchange is taken: its record stands behind the others
-        made-take : {xs : List ℕ} → 0 < bestOf w g lc lp free → FirstGood g lc lp w free (lowest free) xs → bytes ≡ recordOf g (lowest free ∷ xs)
-            → Made g lc lp w plan₀ plan′ (free - setOf (lowest free ∷ xs)) (records + 1)
-        made-take {xs} positive f e =
-            record {
-              made = m .made ++ x ∷ [];
-              leads = leads-take g lc lp w (m .made) positive (lowest-is free (best-nonempty g lc lp w positive)) f (m .leads);
-              count = length-append (m .made) (x ∷ []) ∙ ap (λ (n : ℕ). n + 1) (m .count);
-              long =
-                  ap length (records-snoc g (m .made) x)
-                  ∙ length-append (recordsOf g (m .made)) (recordOf g x)
-                  ∙ ap₂ _+_ (m .long) (record-length g x (told-short (f .good .told)))
-                  ∙ omega arith;
-              written = stands;
-              inside = omega (arith, m .inside);
-            }
-          where
-            x : List ℕ
-            x = lowest free ∷ xs
+          low : IsLowest free (lowest free)
+          low = lowest-is free (best-nonempty g lc lp w positive)
 
-            front : take (16 * records) plan ≡ recordsOf g (m .made)
-            front = ap (take (16 * records)) (m .written) ∙ take-at (recordsOf g (m .made)) (drop (16 * records) plan₀) (16 * records) (m .long)
+          first-in : T (has (setOf x) (lowest free))
+          first-in = has-setOf x (exchange-distinct g (f .good .told .0)) (lowest free) .1 (List·Memᴰ·head refl)
 
-            behind : drop (16 * records) plan ≡ drop (16 * records) plan₀
-            behind = ap (drop (16 * records)) (m .written) ∙ drop-at (recordsOf g (m .made)) (drop (16 * records) plan₀) (16 * records) (m .long)
+          above : (u : ℕ) → T (has free u) → u ≢ lowest free → records + 1 ≤ u
+          above u h ne = omega (arith, m .room (lowest free) (low .isIn), low .least u h)
 
-            sixteen : 16 * records + 16 - 16 * records ≡ 16
-            sixteen = omega arith
+          front : take (16 * records) plan ≡ recordsOf g (m .made)
+          front = ap (take (16 * records)) (m .written) ∙ take-at (recordsOf g (m .made)) (drop (16 * records) plan₀) (16 * records) (m .long)
 
-            next : 16 * records + 16 ≡ 16 * (records + 1)
-            next = omega arith
+          behind : drop (16 * records) plan ≡ drop (16 * records) plan₀
+          behind = ap (drop (16 * records)) (m .written) ∙ drop-at (recordsOf g (m .made)) (drop (16 * records) plan₀) (16 * records) (m .long)
 
-            stands : plan′ ≡ recordsOf g (m .made ++ x ∷ []) ++ drop (16 * (records + 1)) plan₀
-            stands =
-                put
-                ∙ rw (front, e, behind, sixteen, drop-drop 16 (16 * records) plan₀, next, records-snoc g (m .made) x)
-                (sym (append-assoc (recordsOf g (m .made)) (recordOf g x) (drop (16 * (records + 1)) plan₀)))
+          sixteen : 16 * records + 16 - 16 * records ≡ 16
+          sixteen = omega arith
 
-        -- by the set that a round tells
-        module _ {xs : List ℕ} {set : ℕ}
-            (positive : 0 < bestOf w g lc lp free)
-            (took : Took g lc lp w free xs)
-            (told : set ≡ setOf xs)
-            (record-is : bytes ≡ recordLeft g xs (take (16 * records + 16 - 16 * records) (drop (16 * records) plan)))
-          where
-            pub round-none : {f next : ℕ} → set ≡ 0 → free < 2 ^ 16 → f ≡ lowest free → next ≡ withoutVertex 16 free f → (next < free) × Made g lc lp w plan₀ plan′ next records
-            unfolding setOf
-            round-none {f} {next} z wide low e = go took told record-is
-              where
-                some : 0 < free
-                some = best-nonempty g lc lp w positive
+          next : 16 * records + 16 ≡ 16 * (records + 1)
+          next = omega arith
 
-                member : 2 ^ lowest free ≤ free
-                member = bit-le free (lowest free) (lowest-is free some .isIn)
-
-                without : next ≡ free - 2 ^ lowest free
-                without = e ∙ ap (withoutVertex 16 free) low ∙ without-or 16 free wide (lowest free) ∙ or-without free (lowest free) (lowest-is free some .isIn)
-
-                go : {ys : List ℕ} → Took g lc lp w free ys → set ≡ setOf ys → bytes ≡ recordLeft g ys (take (16 * records + 16 - 16 * records) (drop (16 * records) plan))
-                    → (next < free) × Made g lc lp w plan₀ plan′ next records
-                go (nothing none-good) t b = rw without (omega (arith, member, pow-pos (lowest free)), made-skip some none-good b)
-                go (first f) t b = absurd (omega (arith, pow-pos (lowest free)))
-
-            pub round-one : set ≢ 0 → (set ≤ free) × (free - set < free) × Made g lc lp w plan₀ plan′ (free - set) (records + 1)
-            unfolding setOf
-            round-one ne = go took told record-is
-              where
-                go : {ys : List ℕ} → Took g lc lp w free ys → set ≡ setOf ys → bytes ≡ recordLeft g ys (take (16 * records + 16 - 16 * records) (drop (16 * records) plan))
-                    → (set ≤ free) × (free - set < free) × Made g lc lp w plan₀ plan′ (free - set) (records + 1)
-                go (nothing none-good) t b = absurd (ne t)
-                go (first {xs = ys} f) t b =
-                    let part : setOf (lowest free ∷ ys) ≤ free = part-le (f .good .inside) in
-                    rw t (part, omega (arith, t), made-take positive f b)
+          stands : withNext plan records bytes ≡ recordsOf g (m .made ++ x ∷ []) ++ drop (16 * (records + 1)) plan₀
+          stands =
+              rw (front, e, behind, sixteen, drop-drop 16 (16 * records) plan₀, next, records-snoc g (m .made) x)
+              (sym (append-assoc (recordsOf g (m .made)) (recordOf g x) (drop (16 * (records + 1)) plan₀)))
 
       -- ---- nothing more can be gained: the records are those of the answer
 
@@ -205,6 +182,53 @@ module _ (g : Graph) (lc lp : ℕ) (small : g .size ≤ 14) where
         pub made-plan : plan ≡ recordForm g (answer w g lc lp) ++ drop (length (recordForm g (answer w g lc lp))) plan₀
         made-plan = m .written ∙ ap₂ (λ (r : List ℕ) (k : ℕ). r ++ drop k plan₀) form-is (sym (m .long) ∙ ap length form-is)
 
+    -- ---- by what a step tells, keeps and writes: what was clean beside the lowest vertex is clean on what is free next
+
+    module _ {f : Field} {plan₀ plan bytes : List ℕ} {records told : ℕ}
+        (means : Means g lc lp w f)
+        (m : Made g lc lp w plan₀ plan (f .free) records)
+        (positive : 0 < bestOf w g lc lp (f .free))
+        (taken : Taken g f (nextIn plan records) told bytes)
+      where
+        low : IsLowest (f .free) (lowest (f .free))
+        low = lowest-is (f .free) (best-nonempty g lc lp w positive)
+
+        pub step-none : {v next : ℕ} {dead : List ℕ} → told ≡ 0 → f .free < 2 ^ 16 → v ≡ lowestBelow 16 (f .free) → next ≡ withoutVertex 16 (f .free) v → Clean (f .free - 2 ^ lowest (f .free)) dead
+            → (next < f .free) × (Made g lc lp w plan₀ (withNext plan records bytes) next records × Clean next dead)
+        unfolding setOf
+        step-none {v} {next} {dead} z wide found e clean = go taken
+          where
+            some : 0 < f .free
+            some = best-nonempty g lc lp w positive
+
+            without : next ≡ f .free - 2 ^ lowest (f .free)
+            without = e ∙ rw (found ∙ lowest-below 16 (f .free) some wide) (without-or 16 (f .free) wide (lowest (f .free)) ∙ or-without (f .free) (lowest (f .free)) (low .isIn))
+
+            go : Taken g f (nextIn plan records) told bytes → (next < f .free) × (Made g lc lp w plan₀ (withNext plan records bytes) next records × Clean next dead)
+            go (nothing t b cannot) =
+                rw without (omega (arith, bit-le (f .free) (lowest (f .free)) (low .isIn), pow-pos (lowest (f .free))), (made-skip m some (none-good g lc lp w means low cannot) b, clean))
+            go (first c walk t b) = absurd (omega (arith, pow-pos (lowest (f .free))))
+
+        pub step-one : {dead : List ℕ} → told ≢ 0 → Clean (f .free - 2 ^ lowest (f .free)) dead
+            → (told ≤ f .free) × (f .free - told < f .free) × (Made g lc lp w plan₀ (withNext plan records bytes) (f .free - told) (records + 1) × Clean (f .free - told) dead)
+        unfolding setOf
+        step-one {dead} ne clean = go taken
+          where
+            -- the exchange takes the lowest vertex with it
+            less : (ys : List ℕ) → Part (setOf (lowest (f .free) ∷ ys)) (f .free) → T (distinct (lowest (f .free) ∷ ys)) → Part (f .free - setOf (lowest (f .free) ∷ ys)) (f .free - 2 ^ lowest (f .free))
+            less ys inside once = record {
+              within = λ x h.
+                  let (was, new) = in-rest inside x .0 h in
+                  in-without (f .free) (lowest (f .free)) x (low .isIn) .1 (was, λ e. new (has-setOf (lowest (f .free) ∷ ys) once x .1 (List·Memᴰ·head e)));
+            }
+
+            go : Taken g f (nextIn plan records) told bytes
+                → (told ≤ f .free) × (f .free - told < f .free) × (Made g lc lp w plan₀ (withNext plan records bytes) (f .free - told) (records + 1) × Clean (f .free - told) dead)
+            go (nothing t b cannot) = absurd (ne t)
+            go (first {ys = ys} c walk t b) =
+                let taken-first = walk-first-good g lc lp w means low c walk in
+                rw t (part-le (taken-first .good .inside), omega (arith, part-le (taken-first .good .inside), pow-pos (lowest (f .free))), (made-take m positive taken-first b, clean-part (less ys (taken-first .good .inside) (exchange-distinct g (taken-first .good .told .0))) clean))
+
 -- a record more is within a plan buffer that has one for each vertex
 pub part-end : {size records k k₀ : ℕ} → records < size → 16 * size ≤ k₀ → k ≡ k₀ → 16 * records + 16 ≤ k
 part-end l b e = omega arith
@@ -213,33 +237,3 @@ part-end l b e = omega arith
 
 abbrev pub MadeOf : Pool → Limits → List ℕ → List ℕ → ℕ → ℕ → Type 0
 MadeOf p l = Made (graphOf p) (l .cycle) (l .chain) (memberWorth (graphOf p))
-
-taken-long : (f : ℕ → ℕ) (k : ℕ) (table : List ℕ) → take k table ≡ tabulate f k → k ≤ length table
-taken-long f k table e = omega (arith, ap length e, length-take k table, length-tabulate f k)
-
-taken-at : (f : ℕ → ℕ) (k : ℕ) (table : List ℕ) → take k table ≡ tabulate f k → (i : ℕ) → i < k → getD table i 0 ≡ f i
-taken-at f k table e i l = sym (getD-take k table i 0 l) ∙ ap (λ (t : List ℕ). getD t i 0) e ∙ getD-whole f k i l
-
-abbrev entryIn : Pool → Limits → ℕ → ℕ
-entryIn p l = entry (graphOf p) (l .cycle) (l .chain)
-
-abbrev bestIn : Pool → Limits → ℕ → ℕ
-bestIn p l = bestOf (memberWorth (graphOf p)) (graphOf p) (l .cycle) (l .chain)
-
-module _ {p : Pool} {l : Limits} {exchanges best : List ℕ} (hold : TablesHold p l exchanges best) where
-  pub hold-exchanges : 2 ^ p .size ≤ length exchanges
-  hold-exchanges = taken-long (entryIn p l) (2 ^ p .size) exchanges (hold .exchanges-hold)
-
-  pub hold-best : 2 ^ p .size ≤ length best
-  hold-best = taken-long (bestIn p l) (2 ^ p .size) best (hold .best-hold)
-
-  pub hold-meant : Meant (graphOf p) (l .cycle) (l .chain) (memberWorth (graphOf p)) exchanges best
-  hold-meant = record { exchange-at = taken-at (entryIn p l) (2 ^ p .size) exchanges (hold .exchanges-hold); best-at = taken-at (bestIn p l) (2 ^ p .size) best (hold .best-hold) }
-
-  -- the loop's test
-  module _ (free : ℕ) (inside : free < 2 ^ p .size) where
-    pub hold-more : getD best free 0 ≢ 0 → 0 < bestOf (memberWorth (graphOf p)) (graphOf p) (l .cycle) (l .chain) free
-    hold-more ne = omega (arith, hold-meant .best-at free inside)
-
-    pub hold-end : getD best free 0 ≡ 0 → bestOf (memberWorth (graphOf p)) (graphOf p) (l .cycle) (l .chain) free ≡ 0
-    hold-end e = sym (hold-meant .best-at free inside) ∙ e

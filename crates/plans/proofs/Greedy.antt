@@ -15,11 +15,11 @@ use Rattle.plans.specs.Plan.{inOrder, recordsOf, Best, recordForm}
 use Rattle.pool.proofs.Tests.{below, compared, Compared, equal, above}
 use Rattle.pool.proofs.Each.{each-first, each-map, each-both}
 use Rattle.pool.proofs.SetLaws.{nonempty, IsLowest}
-use Rattle.pool.proofs.Parts.{in-rest}
+use Rattle.pool.proofs.Parts.{in-rest, part-le}
 use Rattle.pool.proofs.Vertices.{in-power, power-part, in-without}
 use Rattle.pool.proofs.SetOf.{has-setOf, part-setOf}
 use Rattle.pool.proofs.Worth.{list-worth, total-append}
-use Rattle.tables.proofs.BestTable.{best-with, best-avoids}
+use Rattle.tables.proofs.BestTable.{best-with, best-avoids, best-choice}
 use Rattle.tables.proofs.Walks.{first-lowest}
 use Rattle.tables.proofs.ExchangeFacts.{Told, exchange-distinct, exchange-below, exchange-length, exchange-member, exchange-some}
 use Rattle.tables.proofs.EntryMeaning.{told-marked, marked-told}
@@ -59,6 +59,10 @@ module _ (g : Graph) (lc lp : ℕ) (w : ℕ → ℕ) where
   plan-bound (x ∷ p) plan =
       let (t, i, rises, rest) = plan-split g lc lp x p plan in
       omega (arith, total-append w x (flat p), together-bound t i, plan-bound p rest)
+
+  -- a set with a best that is not 0 has a vertex
+  pub best-nonempty : {U : ℕ} → 0 < bestIn U → 0 < U
+  best-nonempty p = let (t, m, e) = best-choice (worthOf w (g .size)) (marks g lc lp) p in omega (arith, m .nonempty, part-le (m .inside))
 
   -- ---- what is chosen
 

@@ -10,16 +10,11 @@ pub mod OneForm
 pub mod Canonical
 pub mod Greedy
 pub mod Completion
-pub mod CompletionTable
-pub mod Ending
 pub mod BestPlan
 -- the first plan, in code
-pub mod CompletionCode
-pub mod CompletionLoop
-pub mod Search
-pub mod WalkCode
-pub mod RoundCode
-pub mod TakenCode
+pub mod Seek
+pub mod RecordCode
+pub mod StepCode
 pub mod ChoosingCode
 pub mod FilledTables
 pub mod ClearingCode

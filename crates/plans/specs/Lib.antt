@@ -1,6 +1,8 @@
 pub mod Lists
 pub mod Plan
-pub mod Choosing
+pub mod Paths
+pub mod Seeking
+pub mod Taking
 pub mod Clearing
 pub mod Record
 pub mod Check

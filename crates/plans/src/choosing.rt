@@ -1,33 +1,31 @@
 // The plan chosen exchange by exchange over the two tables: of the legal plans that serve most the one whose records come first.
-use crate::round::take_exchange;
+use crate::step::take_exchange;
 use pool::Limits;
 use pool::Pool;
 use pool::VertexSet;
 use tables::all_givers;
 ghost use mathlib.Core.Path.{_≡_};
-ghost use Prim.Native.Nat.{_*_, _^_, _≤_};
+ghost use Prim.Native.Nat.{_-_, _*_, _^_, _≤_};
 ghost use lib.Dec.{T};
 ghost use lib.ListN.{length};
-ghost use Rattle.pool.specs.Lists.{tabulate};
-ghost use Rattle.pool.specs.Value.{graphOf, poolFits};
-ghost use Rattle.tables.specs.Filling.{givers as giversOf};
+ghost use Rattle.pool.specs.Limits.{limitsFit};
+ghost use Rattle.pool.specs.Value.{poolFits};
 ghost use Rattle.plans.specs.Clearing.{TablesHold, planOf, planWritten};
+ghost use Rattle.plans.specs.Taking.{Choosing, Clean};
 
-// Round by round, while something can be gained from the free vertices: an exchange is taken from the lowest on, or that vertex is
-// left out. The limits are those of the tables: the promise speaks of them.
+// Step by step, while something can be gained from the free vertices: an exchange is taken from the lowest on, or that vertex is
+// left out.
 fn choose(
     pool: Pool,
     limits: Limits,
     givers: &[u16],
     exchanges: &[u16],
     best: &[u8],
-    table: &mut [u16],
+    dead: &mut [u16],
     plan: &mut [u8],
 ) -> usize
-    requires { ⌜ T (poolFits pool) ⌝ }
-    requires { ⌜ TablesHold pool limits (now exchanges) (now best) ⌝ }
-    requires { ⌜ now givers ≡ tabulate (giversOf (graphOf pool)) 14 ⌝ }
-    requires { ⌜ 2 ^ pool .size ≤ length (now table) ⌝ }
+    requires { ⌜ Choosing pool limits (now givers) (now exchanges) (now best) ⌝ }
+    requires { ⌜ Clean (2 ^ pool .size - 1) (now dead) ⌝ }
     requires { ⌜ 16 * pool .size ≤ length (now plan) ⌝ }
     ensures records { λ r. ⌜ r ≡ length (planOf pool limits) ⌝ }
     ensures written { λ _. ⌜ now (plan .exit) ≡ planWritten pool limits (now (plan .entry)) ⌝ }
@@ -38,11 +36,12 @@ fn choose(
         let at = 16 * records;
         let set = take_exchange(
             pool,
+            limits,
             givers,
             exchanges,
             best,
             free,
-            table,
+            dead,
             &mut plan[at..at + 16],
         );
         if set == 0 {
@@ -64,12 +63,13 @@ pub(crate) fn write_plan(
     plan: &mut [u8],
 ) -> usize
     requires { ⌜ T (poolFits pool) ⌝ }
+    requires { ⌜ T (limitsFit limits) ⌝ }
     requires { ⌜ TablesHold pool limits (now exchanges) (now best) ⌝ }
     requires { ⌜ 16 * pool .size ≤ length (now plan) ⌝ }
     ensures records { λ r. ⌜ r ≡ length (planOf pool limits) ⌝ }
     ensures written { λ _. ⌜ now (plan .exit) ≡ planWritten pool limits (now (plan .entry)) ⌝ }
 {
     let givers = all_givers(pool);
-    let mut table = [0u16; 16384];
-    choose(pool, limits, &givers, exchanges, best, &mut table, plan)
+    let mut dead = [0u16; 16384];
+    choose(pool, limits, &givers, exchanges, best, &mut dead, plan)
 }

@@ -3,12 +3,12 @@ mod arcs;
 mod check_record;
 mod checker;
 mod choosing;
+mod chosen_record;
 mod clearing;
-mod completions;
 mod record_part;
-mod round;
+mod seeking;
+mod step;
 mod vertices;
-mod walk;
 
 pub use checker::Checked;
 pub use checker::check;

@@ -14,6 +14,8 @@ pub mod SetOf
 pub mod Worth
 pub mod Operations
 pub mod SetLoops
+pub mod LowestBit
+pub mod Sifting
 pub mod MachineBits
 -- tests in order
 pub mod Tested

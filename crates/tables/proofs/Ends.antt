@@ -1,72 +1,78 @@
--- Pass one: the table filled upward holds the ends of paths.
-use mathlib.Core.Bool.{false, Bool, true, not}
-use mathlib.Core.List.{List, _++_, _∷_, [], append-nil}
-use mathlib.Core.Logic.{_⊎_, inl, inr, _↔_, _≢_}
-use mathlib.Core.Path.{ap, _≡_, refl, fun-ext, _∙_, sym, subst}
+-- Pass one: the ends of paths on a set, from those on smaller sets.
+use mathlib.Core.Bool.{false, true, not}
+use mathlib.Core.Logic.{_↔_, _≢_}
+use mathlib.Core.Path.{ap, _≡_, refl, _∙_, sym, subst}
 use Prim.Native.Nat.{_-_, ℕ, zero, suc, _<_, _^_}
+use native.Mathlib.Decide.{ℕ-discrete}
 use native.Mathlib.Nat.{not-suc-le-zero}
 use native.Mathlib.Omega.{arith}
 use lib.Bits.{bitAnd}
 use lib.Dec.{T, eqb}
-use lib.ListN.{getD}
 use lib.Pow.{pow-pos}
-use borrow.Author.Tests.{eqb-true, eqb-false}
+use borrow.Author.Tests.{eq-eqb, ne-eqb}
 use Rattle.pool.specs.Graph.{Graph, WellFormed}
-use Rattle.pool.specs.Sets.{has, lowest, setWhere}
-use Rattle.tables.specs.Filling.{filled, ends, reached, nextEnds, givers}
-use Rattle.pool.specs.Lists.{tabulate}
-use Rattle.pool.proofs.Tests.{passes?, is-false, and-iff₃, differ-iff}
-use Rattle.pool.proofs.SetLaws.{lowest-is, nonempty}
+use Rattle.pool.specs.Sets.{has, lowest}
+use Rattle.tables.specs.Filling.{comes, endsBelow, ends, nextEnds, givers}
+use Rattle.pool.proofs.Tests.{differ-iff}
+use Rattle.pool.proofs.SetLaws.{lowest-is, lowest-eq, nonempty}
 use Rattle.pool.proofs.Parts.{meets}
-use Rattle.pool.proofs.Vertices.{bit-le, in-power, in-where}
-use Rattle.pool.proofs.Tables.{getD-tabulate}
+use Rattle.pool.proofs.Vertices.{bit-le, in-power, in-where, in-without}
+use Rattle.pool.proofs.Sifting.{sift, in-sift, sift-none, sift-same}
 use Rattle.tables.proofs.Paths.{PathEnd, path-alone, path-end-in, Longer, path-longer}
 
+-- the vertices of s but its lowest
+pub in-later : (s v : ℕ) → T (has (s - 2 ^ lowest s) v) ↔ (T (has s v) × (v ≢ lowest s))
+in-later s v = (
+  λ h. in-without s (lowest s) v (lowest-is s (omega (arith, nonempty (s - 2 ^ lowest s) v h)) .isIn) .0 h,
+  λ h. in-without s (lowest s) v (lowest-is s (nonempty s v (h .0)) .isIn) .1 h,
+)
+
+pub later-less : (s v : ℕ) → T (has (s - 2 ^ lowest s) v) → s - 2 ^ v < s
+later-less s v h = omega (arith, bit-le s v (in-later s v .0 h .0), pow-pos v)
+
+pub lowest-power : (l : ℕ) → lowest (2 ^ l) ≡ l
+lowest-power l = lowest-eq (2 ^ l) l (record { isIn = in-power l l .1 refl; least = λ u h. omega (arith, in-power l u .0 h) })
+
 module _ (g : Graph) where
-  -- the table filled entry by entry is the table of `ends`
-  pub filled-is : (k : ℕ) → filled g k ≡ tabulate (ends g) k
-  unfolding filled tabulate ends
-  filled-is zero = refl
-  filled-is (suc k) = ap (λ (t : List ℕ). t ++ (ends g k ∷ [])) (filled-is k)
+  -- ---- an entry rests on those of s without a later vertex alone
 
-  -- ---- an entry depends on the entries before it alone
-
-  same-reached : (s : ℕ) (t t′ : List ℕ) → ((i : ℕ) → i < s → getD t i 0 ≡ getD t′ i 0) → (v : ℕ) → reached g t s v ≡ reached g t′ s v
-  unfolding reached
-  same-reached s t t′ same v = go (passes? (has s v))
+  next-same : (s : ℕ) (e e′ : ℕ → ℕ) → ((i : ℕ) → i < s → e i ≡ e′ i) → nextEnds g e s ≡ nextEnds g e′ s
+  unfolding nextEnds comes
+  next-same s e e′ same = ap (λ (x : ℕ). elim (eqb s (2 ^ lowest s)) as (λ _. ℕ) [ true ↦ s | false ↦ x ]) later
     where
-      go : T (has s v) ⊎ (T (has s v) → ⊥) → reached g t s v ≡ reached g t′ s v
-      go (inl h) = rw (same (s - 2 ^ v) (omega (arith, bit-le s v h, pow-pos v)))
-      go (inr n) = rw (is-false (has s v) n)
+      later : sift (g .size) (comes g e s) (s - 2 ^ lowest s) ≡ sift (g .size) (comes g e′ s) (s - 2 ^ lowest s)
+      later =
+          sift-same (g .size) (s - 2 ^ lowest s) (comes g e s) (comes g e′ s)
+          (λ v h. ap (λ (x : ℕ). not (eqb (bitAnd x (givers g v)) 0)) (same (s - 2 ^ v) (later-less s v h)))
 
-  same-next : (s : ℕ) (t t′ : List ℕ) → ((i : ℕ) → i < s → getD t i 0 ≡ getD t′ i 0) → nextEnds g t s ≡ nextEnds g t′ s
+  same-below : (j k s : ℕ) → s < j → s < k → endsBelow g j s ≡ endsBelow g k s
+  unfolding endsBelow
+  same-below (suc j) (suc k) s h l = next-same s (endsBelow g j) (endsBelow g k) (λ i b. same-below j k i (omega arith) (omega arith))
+  same-below zero k s h l = absurd (not-suc-le-zero h)
+  same-below (suc j) zero s h l = absurd (not-suc-le-zero l)
+
+  pub ends-step : (s : ℕ) → ends g s ≡ nextEnds g (ends g) s
+  unfolding ends endsBelow
+  ends-step s = next-same s (endsBelow g s) (ends g) (λ i h. same-below s (suc i) i h (omega arith))
+
+  pub ends-several : (s : ℕ) → s ≢ 2 ^ lowest s → ends g s ≡ sift (g .size) (comes g (ends g) s) (s - 2 ^ lowest s)
   unfolding nextEnds
-  same-next s t t′ same =
-      ap (λ (p : ℕ → Bool). elim (eqb s (2 ^ lowest s)) as (λ _. ℕ) [ true ↦ s | false ↦ setWhere (g .size) p ]) (fun-ext (same-reached s t t′ same))
+  ends-several s ne = ends-step s ∙ rw (ne-eqb s (2 ^ lowest s) ne, nextEnds)
 
-  in-filled : (s i : ℕ) → i < s → getD (filled g s) i 0 ≡ ends g i
-  in-filled s i h = ap (λ (t : List ℕ). getD t i 0) (filled-is s ∙ sym (append-nil (tabulate (ends g) s))) ∙ getD-tabulate (ends g) s i [] h
+  pub ends-alone : (l : ℕ) → ends g (2 ^ l) ≡ 2 ^ l
+  unfolding nextEnds
+  ends-alone l = ends-step (2 ^ l) ∙ rw (eq-eqb (2 ^ l) (2 ^ lowest (2 ^ l)) (ap (λ (v : ℕ). 2 ^ v) (sym (lowest-power l))), nextEnds)
 
-  -- a turn of the loop: entry s, from a table whose first s entries are filled
-  pub ends-next : (s : ℕ) (rest : List ℕ) → nextEnds g (tabulate (ends g) s ++ rest) s ≡ ends g s
-  unfolding ends
-  ends-next s rest = same-next s (tabulate (ends g) s ++ rest) (filled g s) (λ i h. getD-tabulate (ends g) s i rest h ∙ sym (in-filled s i h))
+  pub ends-none : ends g 0 ≡ 0
+  ends-none =
+      let none : 0 - 2 ^ lowest 0 ≡ 0 = omega arith in
+      ends-several 0 (λ e. omega (arith, pow-pos (lowest 0))) ∙ ap (sift (g .size) (comes g (ends g) 0)) none ∙ sift-none (g .size) (comes g (ends g) 0)
 
   -- ---- the meaning of an entry
 
   -- a vertex alone is a path
   alone : (l v : ℕ) → T (has (2 ^ l) v) ↔ PathEnd g (2 ^ l) v
   alone l v = (λ h. path-alone g l v .1 (in-power l v .0 h), path-end-in g (2 ^ l) v)
-
-  -- the parts of the test
-  reached-is : (t : List ℕ) (s v : ℕ) → T (reached g t s v) ↔ (T (has s v) × (v ≢ lowest s) × (bitAnd (getD t (s - 2 ^ v) 0) (givers g v) ≢ 0))
-  unfolding reached
-  reached-is t s v =
-      let m : ℕ = bitAnd (getD t (s - 2 ^ v) 0) (givers g v) in
-      let r = and-iff₃ (has s v) (not (eqb v (lowest s))) (not (eqb m 0)) in (
-        λ h. let p = r .0 h in (p .0, differ-iff v (lowest s) .0 (p .1), differ-iff m 0 .0 (p .2)),
-        λ p. r .1 (p .0, differ-iff v (lowest s) .1 (p .1), differ-iff m 0 .1 (p .2)),
-      )
 
   module _ (wf : WellFormed g) where
     pub in-givers : (v u : ℕ) → T (has (givers g v) u) ↔ T (g .arc u v)
@@ -75,49 +81,43 @@ module _ (g : Graph) where
 
     -- an entry has its meaning if those before it have
     module _ (s : ℕ) (before : (i : ℕ) → i < s → (u : ℕ) → T (has (ends g i) u) ↔ PathEnd g i u) where
-      -- v is reached exactly where a path on s without v ends at a giver of v
-      reached-longer : (v : ℕ) → T (reached g (filled g s) s v) ↔ Longer g s (lowest s) v
-      reached-longer v = (to, from)
+      -- a path comes to v exactly where one on s without v ends at a giver of v
+      comes-longer : (v : ℕ) → (T (has (s - 2 ^ lowest s) v) × T (comes g (ends g) s v)) ↔ Longer g s (lowest s) v
+      unfolding comes
+      comes-longer v = (to, from)
         where
-          smaller : ℕ
-          smaller = getD (filled g s) (s - 2 ^ v) 0
+          met : ℕ
+          met = bitAnd (ends g (s - 2 ^ v)) (givers g v)
 
-          its-ends : T (has s v) → (u : ℕ) → T (has smaller u) ↔ PathEnd g (s - 2 ^ v) u
-          its-ends h u =
-              let less : s - 2 ^ v < s = omega (arith, bit-le s v h, pow-pos v) in
-              rw (in-filled s (s - 2 ^ v) less) (before (s - 2 ^ v) less u)
+          to : T (has (s - 2 ^ lowest s) v) × T (comes g (ends g) s v) → Longer g s (lowest s) v
+          to (i, t) =
+              let (u, e, a) = meets (ends g (s - 2 ^ v)) (givers g v) .0 (differ-iff met 0 .0 t) in
+              let (inside, later) = in-later s v .0 i in
+              record { isIn = inside; later = later; before = u; path = before (s - 2 ^ v) (later-less s v i) u .0 e; arc = in-givers v u .0 a }
 
-          to : T (reached g (filled g s) s v) → Longer g s (lowest s) v
-          to h =
-              let r = reached-is (filled g s) s v .0 h in
-              let m = meets smaller (givers g v) .0 (r .2) in
-              record { isIn = r .0; later = r .1; before = m .0; path = its-ends (r .0) (m .0) .0 (m .1); arc = in-givers v (m .0) .0 (m .2) }
-
-          from : Longer g s (lowest s) v → T (reached g (filled g s) s v)
+          from : Longer g s (lowest s) v → T (has (s - 2 ^ lowest s) v) × T (comes g (ends g) s v)
           from q =
-              let m = meets smaller (givers g v) .1 (q .before, its-ends (q .isIn) (q .before) .1 (q .path), in-givers v (q .before) .1 (q .arc)) in
-              reached-is (filled g s) s v .1 (q .isIn, q .later, m)
+              let i = in-later s v .1 (q .isIn, q .later) in
+              let e = before (s - 2 ^ v) (later-less s v i) (q .before) .1 (q .path) in
+              (i, differ-iff met 0 .1 (meets (ends g (s - 2 ^ v)) (givers g v) .1 (q .before, e, in-givers v (q .before) .1 (q .arc))))
 
-      more : (v : ℕ) → s ≢ 2 ^ lowest s → T (has (setWhere (g .size) (reached g (filled g s) s)) v) ↔ PathEnd g s v
-      more v ne = (
-        λ h. let q = reached-longer v .0 (r .0 h .1) in longer (q .isIn) .1 q,
-        λ p. let q = longer (path-end-in g s v p) .0 p in r .1 (wf .taker-below (q .before) v (q .arc), reached-longer v .1 q),
+      more : (v : ℕ) → s ≢ 2 ^ lowest s → T (has (ends g s) v) ↔ PathEnd g s v
+      more v ne = rw (ends-several s ne) (
+        λ h. let (_, i, t) = r .0 h in let q = comes-longer v .0 (i, t) in longer (q .isIn) .1 q,
+        λ p. let q = longer (path-end-in g s v p) .0 p in let (i, t) = comes-longer v .1 q in r .1 (wf .taker-below (q .before) v (q .arc), i, t),
       )
         where
-          r : T (has (setWhere (g .size) (reached g (filled g s) s)) v) ↔ ((v < g .size) × T (reached g (filled g s) s v))
-          r = in-where (g .size) (reached g (filled g s) s) v
+          r : T (has (sift (g .size) (comes g (ends g) s) (s - 2 ^ lowest s)) v) ↔ ((v < g .size) × T (has (s - 2 ^ lowest s) v) × T (comes g (ends g) s v))
+          r = in-sift (g .size) (comes g (ends g) s) (s - 2 ^ lowest s) v
 
           longer : T (has s v) → PathEnd g s v ↔ Longer g s (lowest s) v
           longer h = path-longer g s (lowest s) v (lowest-is s (nonempty s v h)) ne
 
       ends-one : (v : ℕ) → T (has (ends g s) v) ↔ PathEnd g s v
-      unfolding ends nextEnds
-      ends-one v = go (eqb s (2 ^ lowest s)) refl
-        where
-          go : (b : Bool) → eqb s (2 ^ lowest s) ≡ b
-              → T (has (elim b as (λ _. ℕ) [ true ↦ s | false ↦ setWhere (g .size) (reached g (filled g s) s) ]) v) ↔ PathEnd g s v
-          go true e = subst (λ (x : ℕ). T (has x v) ↔ PathEnd g x v) (sym (eqb-true s (2 ^ lowest s) e)) (alone (lowest s) v)
-          go false e = more v (eqb-false s (2 ^ lowest s) e)
+      ends-one v = elim (ℕ-discrete s (2 ^ lowest s)) [
+        | no ne ↦ more v ne
+        | yes e ↦ subst (λ (x : ℕ). T (has (ends g x) v) ↔ PathEnd g x v) (sym e) (rw (ends-alone (lowest s)) (alone (lowest s) v))
+      ]
 
     -- a vertex is in entry s exactly where a path on s ends there
     pub ends-is : (s v : ℕ) → T (has (ends g s) v) ↔ PathEnd g s v

@@ -18,9 +18,12 @@ pub mod Paths
 pub mod Ends
 pub mod Masking
 -- the exchange table in code
+pub mod Changed
 pub mod Preparing
-pub mod PassOne
-pub mod PassTwo
+pub mod Looking
+pub mod Keeping
+pub mod ByLowest
+pub mod EightLanes
 pub mod ExchangesCall
 -- the theorems
 pub mod Claims

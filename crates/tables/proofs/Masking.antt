@@ -14,7 +14,8 @@ use Rattle.pool.specs.Sets.{counted, has, lowest}
 use Rattle.tables.specs.Table.{CanEnd, entry}
 use Rattle.tables.specs.Filling.{maskAt, masked, ends, givers}
 use Rattle.pool.proofs.Tests.{and-iff}
-use Rattle.pool.proofs.SetLaws.{not-in-empty, lowest-eq, same-set}
+use Rattle.pool.proofs.SetLaws.{lowest-eq, same-set}
+use Rattle.pool.proofs.Sifting.{in-counted}
 use Rattle.pool.proofs.Parts.{has-and}
 use Rattle.pool.proofs.SetOf.{ones-setOf}
 use Rattle.tables.proofs.ExchangeFacts.{Exchange, exchange-is, is-exchange, exchange-distinct, exchange-walk}
@@ -22,10 +23,6 @@ use Rattle.tables.proofs.Fits.{fits, exchange-fits, fits-exchange}
 use Rattle.tables.proofs.EntryMeaning.{entry-ends}
 use Rattle.tables.proofs.Paths.{PathEnd, path-lowest}
 use Rattle.tables.proofs.Ends.{in-givers, ends-is}
-
-in-counted : (b : Bool) (a v : ℕ) → T (has (counted b a) v) ↔ (T b × T (has a v))
-in-counted true a v = (λ h. (tt, h), λ h. h .1)
-in-counted false a v = (λ h. absurd (not-in-empty v h), λ h. absurd (h .0))
 
 module _ (g : Graph) (wf : WellFormed g) (lc lp : ℕ) where
   -- what pass two leaves are the ends that fit

@@ -11,7 +11,7 @@ use Rattle.pool.specs.declared.value.Pool.{Pool}
 use Rattle.pool.specs.Sets.{has, setWhere}
 use Rattle.pool.specs.Value.{graphOf, poolFits}
 use Rattle.tables.specs.Filling.{givers}
-use Rattle.tables.specs.Passes.{Prepared}
+use Rattle.tables.specs.ByLowest.{Prepared}
 use Rattle.pool.proofs.SetLaws.{not-in-empty}
 use Rattle.pool.proofs.Operations.{one-shl}
 use Rattle.pool.proofs.SetLoops.{where-reach}

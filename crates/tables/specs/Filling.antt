@@ -1,10 +1,8 @@
--- How the exchange table is filled, as functions on tables: pass one, the ends of paths, and pass two, which of them end an
+-- How the exchange table is filled, as functions on sets: pass one, the ends of paths, and pass two, which of them end an
 -- exchange. That this gives `entry` is proved (`Claims`).
 use mathlib.Core.Bool.{Bool, true, false, not, _&&_}
-use mathlib.Core.List.{List, [], _∷_, _++_}
 use Prim.Native.Nat.{ℕ, zero, suc, _+_, _-_, _^_}
 use lib.Dec.{eqb, leb}
-use lib.ListN.{getD}
 use lib.Bits.{bitAnd}
 use lib.Count.{ones}
 use Rattle.pool.specs.Graph.{Graph, isAltruist}
@@ -14,21 +12,24 @@ use Rattle.pool.specs.Sets.{has, counted, setWhere, lowest}
 unfoldable pub givers : Graph → ℕ → ℕ
 givers g v = setWhere (g .size) (λ u. g .arc u v)
 
--- can a path on s end at v, a vertex other than the lowest? By the entry of s without v
-unfoldable pub reached : Graph → List ℕ → ℕ → ℕ → Bool
-reached g table s v = has s v && not (eqb v (lowest s)) && not (eqb (bitAnd (getD table (s - 2 ^ v) 0) (givers g v)) 0)
+-- does a path on s without v end at a giver of v, where e tells the ends of paths on the smaller sets?
+unfoldable pub comes : Graph → (ℕ → ℕ) → ℕ → ℕ → Bool
+unfolding givers
+comes g e s v = not (eqb (bitAnd (e (s - 2 ^ v)) (givers g v)) 0)
 
--- pass one at s: the ends of the paths on s, from the entries of the smaller sets
-unfoldable pub nextEnds : Graph → List ℕ → ℕ → ℕ
-nextEnds g table s = elim (eqb s (2 ^ lowest s)) [ true ↦ s | false ↦ setWhere (g .size) (reached g table s) ]
+-- pass one at s: the ends of the paths on s that begin at its lowest vertex. A vertex alone is a path; any other ends at a later vertex
+unfoldable pub nextEnds : Graph → (ℕ → ℕ) → ℕ → ℕ
+unfolding comes
+nextEnds g e s =
+    elim (eqb s (2 ^ lowest s)) [ true ↦ s | false ↦ setWhere (g .size) (λ v. has (s - 2 ^ lowest s) v && comes g e s v) ]
 
--- the table of the first k entries, each from those before it
-unfoldable pub filled : Graph → ℕ → List ℕ
-filled g zero = []
-filled g (suc k) = filled g k ++ (nextEnds g (filled g k) k ∷ [])
+-- on sets below k
+unfoldable pub endsBelow : Graph → ℕ → ℕ → ℕ
+endsBelow g zero s = 0
+endsBelow g (suc k) s = nextEnds g (endsBelow g k) s
 
 unfoldable pub ends : Graph → ℕ → ℕ
-ends g s = nextEnds g (filled g s) s
+ends g s = endsBelow g (suc s) s
 
 -- pass two at s, what is left of the entry e: where the lowest vertex is an altruist, all of it if s has 1 to lp vertices beside
 -- it; else the ends that give to the lowest, if s has at most lc vertices

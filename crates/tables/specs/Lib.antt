@@ -4,4 +4,6 @@ pub mod Table
 pub mod Filling
 pub mod BestFilling
 pub mod Calls
-pub mod Passes
+pub mod Changed
+pub mod ByLowest
+pub mod Abreast

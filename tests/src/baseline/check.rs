@@ -1,6 +1,6 @@
 //! Checking a plan in one walk over its records.
 
-use super::clear::{CHAIN, PLAN_RECORD, RING};
+use super::plan::{CHAIN, PLAN_RECORD, RING};
 use super::pool::{read_pool, test_limits};
 use crate::pools::{PoolValue, MOST_PLACES};
 use crate::refusal::{refuse, Refusal};

@@ -1,8 +1,13 @@
-//! Filling the exchange table and the best table.
+//! Filling the exchange table and the best table. With the bounds of each index tested
+//! the exchange table takes 1.13 times as long, the best table 1.33 times.
 
-use super::pool::{givers_of, places_in, test_limits, test_value};
-use crate::pools::PoolValue;
+use super::pool::{givers_of, test_limits, test_value};
+use crate::pools::{PoolValue, MOST_PLACES};
 use crate::refusal::{refuse, Refusal};
+
+/// A marked set is worth this and its members, any other 0: so a sum of a worth and
+/// a best entry counts exactly if it is not below this.
+pub const MARK: u8 = 64;
 
 pub fn fill_exchanges(
     pool: &PoolValue,
@@ -14,16 +19,25 @@ pub fn fill_exchanges(
     test_limits(lc, lp)?;
     let entries = entries_needed(pool, table.len(), 8)?;
     let table = &mut table[..entries];
-    fill_ends(pool, table);
-    keep_exchanges(pool, lc, lp, table);
+    let givers = givers_of(pool);
+    fill_ends(pool, &givers, lc, lp, table);
+    keep_exchanges(pool, &givers, table);
     Ok(entries)
 }
 
-pub fn fill_best(pool: &PoolValue, exchanges: &[u16], best: &mut [u8]) -> Result<usize, Refusal> {
+/// Leaves in `worth`, which is as long as a best table, what each set is worth.
+pub fn fill_best(
+    pool: &PoolValue,
+    exchanges: &[u16],
+    worth: &mut [u8],
+    best: &mut [u8],
+) -> Result<usize, Refusal> {
     test_value(pool)?;
     let entries = entries_needed(pool, exchanges.len(), 8)?;
     entries_needed(pool, best.len(), 9)?;
-    fill_greatest(&worths(pool, &exchanges[..entries]), &mut best[..entries]);
+    let worth = &mut worth[..entries];
+    fill_worth(pool, &exchanges[..entries], worth);
+    fill_greatest(worth, &mut best[..entries]);
     Ok(entries)
 }
 
@@ -35,69 +49,103 @@ pub fn entries_needed(pool: &PoolValue, lent: usize, number: u64) -> Result<usiz
     Ok(entries)
 }
 
-/// Pass one: the ends of all paths through a set that begin at its lowest place.
-fn fill_ends(pool: &PoolValue, table: &mut [u16]) {
-    let givers = givers_of(pool);
+/// Pass one: the ends of all paths through a set that begin at its lowest place;
+/// none where the set is too large for an exchange that begins there.
+fn fill_ends(pool: &PoolValue, givers: &[u16; MOST_PLACES], lc: u8, lp: u8, table: &mut [u16]) {
+    let houses = (1 << pool.houses) - 1;
     table[0] = 0;
     for s in 1..table.len() {
-        let others = s & (s - 1);
-        if others == 0 {
-            table[s] = s as u16;
-            continue;
-        }
+        let lowest = s & s.wrapping_neg();
+        let largest = if lowest & houses != 0 { lp + 1 } else { lc };
         let mut ends = 0;
-        for v in places_in(others as u16) {
-            let end = table[s & !(1 << v)] & givers[v] != 0;
-            ends |= u16::from(end) << v;
+        if s.count_ones() <= u32::from(largest) {
+            ends = path_ends(givers, table, s);
         }
         table[s] = ends;
     }
 }
 
-/// Pass two: the ends that make an exchange within the limits.
-fn keep_exchanges(pool: &PoolValue, lc: u8, lp: u8, table: &mut [u16]) {
-    let givers = givers_of(pool);
-    let houses = u32::from(pool.houses);
-    for (s, entry) in table.iter_mut().enumerate().skip(1) {
-        let lowest = s.trailing_zeros();
-        if lowest < houses {
-            let members = members_of(pool, s);
-            if members == 0 || members > lp {
-                *entry = 0;
-            }
-        } else if s.count_ones() > u32::from(lc) {
-            *entry = 0;
-        } else {
-            *entry &= givers[lowest as usize];
+#[inline(always)]
+fn path_ends(givers: &[u16; MOST_PLACES], table: &[u16], s: usize) -> u16 {
+    let mut others = s & (s - 1);
+    let mut ends = if others == 0 { s } else { 0 };
+    while others != 0 {
+        let v = others.trailing_zeros();
+        let bit = others & others.wrapping_neg();
+        // SAFETY: the set without one of its places is below it and so in the table,
+        // which has an entry for each set of at most 14 places.
+        let end = unsafe { table.get_unchecked(s ^ bit) & givers.get_unchecked(v as usize) };
+        ends |= usize::from(end != 0) << v;
+        others ^= bit;
+    }
+    ends as u16
+}
+
+/// Pass two: of a ring the ends that give to its first place; a house alone is no
+/// chain.
+fn keep_exchanges(pool: &PoolValue, givers: &[u16; MOST_PLACES], table: &mut [u16]) {
+    for (lowest, &closing) in givers.iter().enumerate().take(pool.places.into()) {
+        let house = lowest < usize::from(pool.houses);
+        let kept = if house { !(1 << lowest) } else { closing };
+        let mut s = 1 << lowest;
+        while s < table.len() {
+            table[s] &= kept;
+            s += 2 << lowest;
         }
     }
 }
 
-fn members_of(pool: &PoolValue, set: usize) -> u8 {
-    (set >> pool.houses).count_ones() as u8
+fn fill_worth(pool: &PoolValue, exchanges: &[u16], worth: &mut [u8]) {
+    for (set, (entry, &ends)) in worth.iter_mut().zip(exchanges).enumerate() {
+        let members = (set >> pool.houses).count_ones() as u8;
+        *entry = if ends != 0 { MARK + members } else { 0 };
+    }
+    worth[0] = 0;
 }
 
-/// The members of each marked set, and 0 for an unmarked one so that the inner
-/// loop of the best table has no branch.
-pub fn worths(pool: &PoolValue, exchanges: &[u16]) -> Vec<u8> {
-    let worth = |(set, &ends): (usize, &u16)| {
-        if ends != 0 {
-            members_of(pool, set)
-        } else {
-            0
-        }
-    };
-    exchanges.iter().enumerate().map(worth).collect()
-}
-
+/// The table is cleared first because the empty part, worth 0, reads the very entry
+/// that is to be written.
 fn fill_greatest(worth: &[u8], best: &mut [u8]) {
-    for s in 0..best.len() {
-        let mut greatest = 0;
-        let mut t = s;
-        while t != 0 {
-            greatest = greatest.max(worth[t] + best[s - t]);
-            t = (t - 1) & s;
-        }
-        best[s] = greatest;
+    best.fill(0);
+    for s in 1..best.len() {
+        let greatest = if s.is_power_of_two() {
+            worth[s].into()
+        } else {
+            greatest_of_parts(worth, best, s)
+        };
+        best[s] = greatest.saturating_sub(MARK.into()) as u8;
     }
+}
+
+/// Parts go by fours, with and without the two lowest places, so that no load waits
+/// for another. Not inlined, so that the loop has all registers.
+#[inline(never)]
+fn greatest_of_parts(worth: &[u8], best: &[u8], s: usize) -> u32 {
+    let upper = s & (s - 1);
+    let rest = upper & (upper - 1);
+    let (a, b) = (s ^ upper, upper ^ rest);
+    let (worth_a, worth_b, worth_ab) = (&worth[a..], &worth[b..], &worth[a + b..]);
+    let (best_a, best_b, best_ab) = (&best[a..], &best[b..], &best[a + b..]);
+    let mut greatest = [0; 4];
+    let mut t = rest;
+    loop {
+        let u = rest ^ t;
+        // SAFETY: t and u are parts of s without a and b, so with them they are parts
+        // of s, and s is below the length of both tables.
+        unsafe {
+            greatest[0] = greatest[0].max(sum(worth_ab.get_unchecked(t), best.get_unchecked(u)));
+            greatest[1] = greatest[1].max(sum(worth_b.get_unchecked(t), best_a.get_unchecked(u)));
+            greatest[2] = greatest[2].max(sum(worth_a.get_unchecked(t), best_b.get_unchecked(u)));
+            greatest[3] = greatest[3].max(sum(worth.get_unchecked(t), best_ab.get_unchecked(u)));
+        }
+        if t == 0 {
+            let [w, x, y, z] = greatest;
+            return w.max(x).max(y.max(z));
+        }
+        t = t.wrapping_sub(1) & rest;
+    }
+}
+
+fn sum(worth: &u8, best: &u8) -> u32 {
+    u32::from(*worth) + u32::from(*best)
 }

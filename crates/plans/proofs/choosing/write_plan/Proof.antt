@@ -1,9 +1,5 @@
 use borrow.Author.Needs.{needs}
-use Prim.Native.Nat.{ℕ, _^_, _≤_}
-use native.Mathlib.Omega.{arith}
-use lib.ListN.{length-replicate}
-use lib.Pow.{pow-mono}
-use Rattle.pool.proofs.ValueLaws.{fits-size}
+use Rattle.plans.proofs.StepCode.{all-clean}
 use Rattle.plans.proofs.choosing.write_plan.Statement.{statement}
 use Rattle.plans.proofs.choosing.write_plan.Tie as tie
 
@@ -19,8 +15,7 @@ slice-aggregate-choose-2 c = search needs
 choose-requires : tie.Need-choose-requires
 choose-requires c κs =
     let s = c .before .before .before .before .before .before .before in
-    let most : 2 ^ s .args .pool .size ≤ 2 ^ 14 = pow-mono (fits-size (s .args .pool) (s .pre .0)) in
-    (s .pre .0, (s .pre .1 .0, (c .before .before .before .all-givers .ensures, (omega (arith, length-replicate {A = ℕ} 16384 0), s .pre .1 .1))))
+    (record { fits = s .pre .0; limits-fit = s .pre .1 .0; givers-are = c .before .before .before .all-givers .ensures; hold = s .pre .1 .1 .0 }, (all-clean, s .pre .1 .1 .1))
 
 same-length : tie.Need-same-length
 same-length c = search needs

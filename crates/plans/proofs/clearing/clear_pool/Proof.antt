@@ -69,7 +69,8 @@ write-plan-requires : tie.Need-write-plan-requires
 write-plan-requires c κs =
     let b = c .before .before .before .before .before in
     let s = b .before .before .before .before .before .before .before .before .before .before .before .before .before in
-    (s .pre, (hold b, holds (b .before .before .before .before .before .before .before) .plan-long))
+    let t = holds (b .before .before .before .before .before .before .before) in
+    (s .pre, (t .within, (hold b, t .plan-long)))
 
 cast-all : tie.Need-cast-all
 cast-all c = search needs

@@ -7,15 +7,12 @@ use lib.Dec.{T}
 use lib.ListN.{length}
 use Rattle.pool.specs.Refusals.{accepted}
 use Rattle.pool.specs.Limits.{limitsFit}
-use Rattle.pool.specs.Value.{graphOf, poolFits}
-use Rattle.tables.specs.Table.{entry}
-use Rattle.tables.specs.Filling.{ends}
-use Rattle.tables.specs.Passes.{Prepared}
+use Rattle.pool.specs.Value.{poolFits}
+use Rattle.tables.specs.ByLowest.{Prepared}
 use Rattle.pool.proofs.Tested.{outcome-accepted, outcome-refused}
 use Rattle.pool.proofs.ValueLaws.{fits-size}
 use Rattle.pool.proofs.Accepted.{pool-fits, limits-fit}
 use Rattle.tables.proofs.Preparing.{entries-are}
-use Rattle.tables.proofs.PassTwo.{written-once, written-twice}
 use Rattle.tables.proofs.ExchangesCall.{refused-by-pool, refused-by-limits, refused-short, accepted-all, left-alone, left-filled}
 use Rattle.tables.proofs.exchanges.fill_exchanges.Statement.{statement}
 use Rattle.tables.proofs.exchanges.fill_exchanges.Tie as tie
@@ -81,8 +78,8 @@ returns-3 c =
 all-givers-requires : tie.Need-all-givers-requires
 all-givers-requires c κs = search needs
 
-slice-aggregate-fill-path-ends : tie.Need-slice-aggregate-fill-path-ends
-slice-aggregate-fill-path-ends c = search needs
+slice-aggregate-fill-by-lowest : tie.Need-slice-aggregate-fill-by-lowest
+slice-aggregate-fill-by-lowest c = search needs
 
 -- what both passes rest on, and room for all entries
 prepared : (c : tie.After-all-givers) → Prepared (c .before .before .before .before .before .before .before .before .before .before .args .pool) (c .all-givers .result)
@@ -93,37 +90,21 @@ room c =
     let t = c .before .before .before .before .before in
     omega (arith, entries-are (t .before .before .before .before .args .pool) (fits t))
 
-fill-path-ends-requires : tie.Need-fill-path-ends-requires
-fill-path-ends-requires c κs = (prepared (c .before .before), room (c .before .before .before))
-
-slice-aggregate-keep-exchange-ends : tie.Need-slice-aggregate-keep-exchange-ends
-slice-aggregate-keep-exchange-ends c = search needs
-
-keep-exchange-ends-requires : tie.Need-keep-exchange-ends-requires
-keep-exchange-ends-requires c κs =
-    let f = c .before .before .before .before in
-    let g = f .before .before .before in
-    let a = g .before .before .before .before .before .before .before .before .before .before .args in (
-      prepared g,
-      (omega (arith, f .fill-path-ends .kept, room (g .before)), written-once (ends (graphOf (a .pool))) (2 ^ a .pool .size) (now (a .table)) (f .fill-path-ends .ensures)),
-    )
+fill-by-lowest-requires : tie.Need-fill-by-lowest-requires
+fill-by-lowest-requires c κs = (prepared (c .before .before), room (c .before .before .before))
 
 same-length : tie.Need-same-length
 same-length c = search needs
 
 returns-4 : tie.Need-returns-4
 returns-4 c =
-    let f = c .before .before .before .before .before .before .before in
+    let f = c .before .before in
     let o = f .before .before .before .before in
     let w = o .before .before in
     let t = w .before .before .before in
     let a = t .before .before .before .before .args in
-    let e = accepted-all (a .pool) (a .limits) (now (a .table)) (fits t) (within w) (room o) in (
-      ap accepted (entries-are (a .pool) (fits t)) ∙ e,
-      written-twice (ends (graphOf (a .pool))) (2 ^ a .pool .size) (now (a .table)) (f .fill-path-ends .ensures)
-          (entry (graphOf (a .pool)) (a .limits .cycle) (a .limits .chain)) (c .before .before .keep-exchange-ends .ensures)
-          ∙ left-filled (a .pool) (a .limits) (now (a .table)) e,
-    )
+    let e = accepted-all (a .pool) (a .limits) (now (a .table)) (fits t) (within w) (room o) in
+    (ap accepted (entries-are (a .pool) (fits t)) ∙ e, f .fill-by-lowest .ensures ∙ left-filled (a .pool) (a .limits) (now (a .table)) e)
 
 pub fill-exchanges-spec : {M : Type 1} → statement M
 fill-exchanges-spec =
@@ -141,9 +122,7 @@ fill-exchanges-spec =
     shl-entries
     returns-3
     all-givers-requires
-    slice-aggregate-fill-path-ends
-    fill-path-ends-requires
-    slice-aggregate-keep-exchange-ends
-    keep-exchange-ends-requires
+    slice-aggregate-fill-by-lowest
+    fill-by-lowest-requires
     same-length
     returns-4)
