@@ -1,6 +1,6 @@
 #!/usr/bin/env bash
 # Times the choice of the plan by itself, which no call for C reaches. In a temporary copy of the repository
-# it makes `write_plan` of plans public, hands it on to C, proves and builds that, and runs the bench `choice`.
+# it makes `write_plan` of clearing public, hands it on to C, proves and builds that, and runs the bench `choice`.
 set -euo pipefail
 cd "$(dirname "${BASH_SOURCE[0]}")/../.."
 copy=$(mktemp -d)
@@ -14,10 +14,10 @@ expect() {
     grep -qxF "$2" "$copy/$1" || { echo "$1 has no line '$2'" >&2; exit 1; }
 }
 
-expect crates/plans/src/lib.rt 'mod choosing;'
-expect crates/plans/src/choosing.rt 'pub(crate) fn write_plan('
-sed -i 's/^pub(crate) fn write_plan($/pub fn write_plan(/' "$copy/crates/plans/src/choosing.rt"
-echo 'pub use choosing::write_plan;' >> "$copy/crates/plans/src/lib.rt"
+expect crates/clearing/src/lib.rt 'mod choosing;'
+expect crates/clearing/src/choosing.rt 'pub(crate) fn write_plan('
+sed -i 's/^pub(crate) fn write_plan($/pub fn write_plan(/' "$copy/crates/clearing/src/choosing.rt"
+echo 'pub use choosing::write_plan;' >> "$copy/crates/clearing/src/lib.rt"
 printf '%s\n' 'mod choice;' 'pub use choice::swap_write_plan;' >> "$copy/crates/capi/src/lib.rt"
 cat > "$copy/crates/capi/src/choice.rt" <<'RATTLE'
 // The choice of the plan over filled tables, for C.
@@ -29,7 +29,8 @@ ghost use lib.Dec.{T};
 ghost use lib.ListN.{length};
 ghost use Rattle.pool.specs.Limits.{limitsOf, limitsFit};
 ghost use Rattle.pool.specs.Value.{poolFits};
-ghost use Rattle.plans.specs.Clearing.{TablesHold, planOf, planWritten};
+ghost use Rattle.clearing.specs.Clearing.{planOf, planWritten};
+ghost use Rattle.clearing.specs.inner.Taking.{TablesHold};
 ghost use Rattle.capi.specs.Answers.{poolFrom};
 
 #[no_mangle]
@@ -60,7 +61,7 @@ pub extern "C" fn swap_write_plan(
         cycle: lc,
         chain: lp,
     };
-    plans::write_plan(value, limits, exchanges, best, plan)
+    clearing::write_plan(value, limits, exchanges, best, plan)
 }
 RATTLE
 

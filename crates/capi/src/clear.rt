@@ -1,10 +1,10 @@
 // Clearing, for C.
 use crate::answer::Answer;
-use plans::Cleared;
+use clearing::Cleared;
 use pool::Limits;
 ghost use mathlib.Core.Path.{_≡_};
 ghost use Rattle.pool.specs.Limits.{limitsOf};
-ghost use Rattle.plans.specs.Clearing.{clearedOutcome, clearOutcome, exchangesCleared, bestCleared, planCleared};
+ghost use Rattle.clearing.specs.Clearing.{clearedOutcome, clearable, clearOutcome, exchangesCleared, bestCleared, planCleared};
 ghost use Rattle.capi.specs.Answers.{clearAnswer};
 
 // Members served and records written, of the plan that serves most and comes first.
@@ -17,20 +17,20 @@ pub extern "C" fn swap_clear(
     best: &mut [u8],
     plan: &mut [u8],
 ) -> Answer
-    ensures answer { λ r. ⌜ r ≡ clearAnswer (clearOutcome (now (pool .entry)) (limitsOf lc lp) (now (exchanges .entry)) (now (best .entry)) (now (plan .entry))) ⌝ }
-    ensures exchanges { λ _. ⌜ now (exchanges .exit) ≡ exchangesCleared (now (pool .entry)) (limitsOf lc lp) (now (exchanges .entry)) (now (best .entry)) (now (plan .entry)) ⌝ }
-    ensures best { λ _. ⌜ now (best .exit) ≡ bestCleared (now (pool .entry)) (limitsOf lc lp) (now (exchanges .entry)) (now (best .entry)) (now (plan .entry)) ⌝ }
-    ensures plan { λ _. ⌜ now (plan .exit) ≡ planCleared (now (pool .entry)) (limitsOf lc lp) (now (exchanges .entry)) (now (best .entry)) (now (plan .entry)) ⌝ }
+    ensures answer { λ r. ⌜ r ≡ clearAnswer (clearOutcome (limitsOf lc lp) (clearable (now (pool .entry)) (limitsOf lc lp) (now (exchanges .entry)) (now (best .entry)) (now (plan .entry)))) ⌝ }
+    ensures exchanges { λ _. ⌜ now (exchanges .exit) ≡ exchangesCleared (limitsOf lc lp) (clearable (now (pool .entry)) (limitsOf lc lp) (now (exchanges .entry)) (now (best .entry)) (now (plan .entry))) (now (exchanges .entry)) ⌝ }
+    ensures best { λ _. ⌜ now (best .exit) ≡ bestCleared (limitsOf lc lp) (clearable (now (pool .entry)) (limitsOf lc lp) (now (exchanges .entry)) (now (best .entry)) (now (plan .entry))) (now (best .entry)) ⌝ }
+    ensures plan { λ _. ⌜ now (plan .exit) ≡ planCleared (limitsOf lc lp) (clearable (now (pool .entry)) (limitsOf lc lp) (now (exchanges .entry)) (now (best .entry)) (now (plan .entry))) (now (plan .entry)) ⌝ }
 {
     let limits = Limits {
         cycle: lc,
         chain: lp,
     };
-    let cleared = plans::clear(pool, limits, exchanges, best, plan);
-    answer_of(cleared)
+    let cleared = clearing::clear(pool, limits, exchanges, best, plan);
+    answer_cleared(cleared)
 }
 
-fn answer_of(cleared: Cleared) -> Answer
+fn answer_cleared(cleared: Cleared) -> Answer
     ensures { λ r. ⌜ r ≡ clearAnswer (clearedOutcome cleared) ⌝ }
 {
     match cleared {

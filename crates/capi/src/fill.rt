@@ -31,8 +31,8 @@ pub extern "C" fn swap_fill_exchanges(
         cycle: lc,
         chain: lp,
     };
-    let filled = tables::fill_exchanges(value, limits, table);
-    answer_of(filled)
+    let filled = exchanges::fill_exchanges(value, limits, table);
+    answer_filled(filled)
 }
 
 // Entries written: the best table of the sets marked in a lent exchange table, which may hold anything.
@@ -54,10 +54,10 @@ pub extern "C" fn swap_fill_best(
         gives: sets,
     };
     let filled = tables::fill_best(value, exchanges, table);
-    answer_of(filled)
+    answer_filled(filled)
 }
 
-fn answer_of(filled: Filled) -> Answer
+fn answer_filled(filled: Filled) -> Answer
     ensures { λ r. ⌜ r ≡ countAnswer (filledOutcome filled) ⌝ }
 {
     match filled {

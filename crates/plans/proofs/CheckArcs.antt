@@ -9,15 +9,15 @@ use lib.Dec.{eqb, leb}
 use lib.ListN.{length, drop, getD}
 use borrow.Author.Tests.{lt-ltb, le-ltb, le-leb, lt-leb}
 use Rattle.pool.specs.declared.value.Pool.{Pool}
-use Rattle.pool.specs.Lists.{total}
-use Rattle.pool.specs.Graph.{Graph, isAltruist}
+use Rattle.kep.specs.Lists.{total}
+use Rattle.kep.specs.Graph.{Graph, isAltruist}
 use Rattle.pool.specs.Value.{graphOf}
-use Rattle.tables.specs.Exchange.{walk, lastOf, headOf}
-use Rattle.tables.specs.Table.{memberWorth, served}
+use Rattle.kep.specs.Exchange.{walk, lastOf, headOf}
+use Rattle.kep.specs.Table.{memberWorth, served}
 use Rattle.plans.specs.Check.{joined, withinLimits}
-use Rattle.pool.proofs.Tests.{same-test, differ-iff}
+use Rattle.kep.proofs.Tests.{same-test, differ-iff}
 use Rattle.pool.proofs.ValueLaws.{arc-iff}
-use Rattle.tables.proofs.Walks.{walk-cons}
+use Rattle.kep.proofs.Walks.{walk-cons}
 use Rattle.plans.proofs.Scans.{has-bit, rest-next, rest-none}
 
 -- the bit that code tests for an arc

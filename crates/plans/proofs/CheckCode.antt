@@ -12,20 +12,20 @@ use borrow.Author.Tests.{le-leb, lt-leb, eq-eqb, ne-eqb, not-true, not-false}
 use Rattle.pool.specs.declared.limits.Limits.{Limits}
 use Rattle.pool.specs.declared.refusal.Cause.the-variants as cause
 use Rattle.pool.specs.declared.value.Pool.{Pool}
-use Rattle.pool.specs.Lists.{none, also}
-use Rattle.pool.specs.Graph.{Graph}
+use Rattle.kep.specs.Lists.{none, also}
+use Rattle.kep.specs.Graph.{Graph}
 use Rattle.pool.specs.Refusals.{Outcome, accepted, tested}
 use Rattle.pool.specs.Value.{graphOf}
-use Rattle.tables.specs.Exchange.{headOf}
-use Rattle.tables.specs.Table.{served}
+use Rattle.kep.specs.Exchange.{headOf}
+use Rattle.kep.specs.Table.{served}
 use Rattle.plans.specs.declared.check_record.Passed.{Passed}
 use Rattle.plans.specs.declared.check_record.RecordAnswer.the-variants as answer
-use Rattle.plans.specs.Plan.{kindOf}
+use Rattle.kep.specs.Plan.{kindOf}
 use Rattle.plans.specs.Check.{verticesOf, allBelow, allFiller, noneLower, listsVertices, rising, joined, withinLimits, endsRight, recordTests}
-use Rattle.plans.specs.CheckSteps.{freshIn, added, recordCheck, RecordChecked, Listed}
-use Rattle.pool.proofs.Tests.{from-true, from-false, same-test, and-iff₃}
-use Rattle.pool.proofs.Each.{each-map}
-use Rattle.pool.proofs.ListLaws.{all-each}
+use Rattle.plans.specs.inner.CheckSteps.{freshIn, added, recordCheck, RecordChecked, Listed}
+use Rattle.kep.proofs.Tests.{from-true, from-false, same-test, and-iff₃}
+use Rattle.kep.proofs.Each.{each-map}
+use Rattle.kep.proofs.ListLaws.{all-each}
 use Rattle.pool.proofs.Tested.{all-pass, first-fails}
 use Rattle.plans.proofs.RecordVertices.{count-most, vertices-part, filler-part}
 use Rattle.plans.proofs.CheckArcs.{head-here}

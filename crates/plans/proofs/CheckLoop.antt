@@ -8,17 +8,17 @@ use lib.ListN.{length, take, drop}
 use Rattle.pool.specs.declared.limits.Limits.{Limits}
 use Rattle.pool.specs.declared.refusal.Cause.{Cause}
 use Rattle.pool.specs.declared.value.Pool.{Pool}
-use Rattle.pool.specs.Lists.{Each, none, also}
+use Rattle.kep.specs.Lists.{Each, none, also}
 use Rattle.pool.specs.Refusals.{numberOf, Outcome, accepted, refused}
 use Rattle.pool.specs.Value.{graphOf}
-use Rattle.tables.specs.Exchange.{headOf}
-use Rattle.tables.specs.Table.{served}
+use Rattle.kep.specs.Exchange.{headOf}
+use Rattle.kep.specs.Table.{served}
 use Rattle.plans.specs.declared.check_record.Passed.{Passed}
 use Rattle.plans.specs.declared.check_record.RecordAnswer.{RecordAnswer}
 use Rattle.plans.specs.declared.check_record.RecordAnswer.the-variants as record-answer
 use Rattle.plans.specs.Record.{recordAt}
 use Rattle.plans.specs.Check.{verticesOf, recordTests, check}
-use Rattle.plans.specs.CheckSteps.{freshIn, added, recordCheck, recordOutcome, RecordChecked}
+use Rattle.plans.specs.inner.CheckSteps.{freshIn, added, recordCheck, recordOutcome, RecordChecked}
 use Rattle.pool.proofs.Tested.{Pass, all-held}
 use Rattle.plans.proofs.RecordLaws.{part-record}
 use Rattle.plans.proofs.CheckRecord.{no-cause-passes}

@@ -5,20 +5,19 @@ use mathlib.Core.Path.{_≡_, refl, sym, _∙_, ap, ap₂}
 use Prim.Native.Nat.{ℕ, suc, _≤_}
 use native.Mathlib.Omega.{arith}
 use lib.Dec.{T}
-use Rattle.pool.specs.Lists.{Each, none, also, Pairwise, nil, cons, distinct}
-use Rattle.plans.specs.Lists.{flat}
-use Rattle.pool.specs.Graph.{Graph, WellFormed}
-use Rattle.tables.specs.Exchange.{headOf}
-use Rattle.tables.specs.Table.{served}
-use Rattle.plans.specs.Plan.{recordOf}
+use Rattle.kep.specs.Lists.{Each, none, also, Pairwise, nil, cons, distinct, flat}
+use Rattle.kep.specs.Graph.{Graph, WellFormed}
+use Rattle.kep.specs.Exchange.{headOf}
+use Rattle.kep.specs.Table.{served}
+use Rattle.kep.specs.Plan.{recordOf}
 use Rattle.pool.specs.Refusals.{accepted, refused, tested}
 use Rattle.plans.specs.Check.{verticesOf, fresh, recordTests, checkFrom}
-use Rattle.pool.proofs.Each.{each-first, each-rest, each-map}
-use Rattle.pool.proofs.ListLaws.{distinct-append}
+use Rattle.kep.proofs.Each.{each-first, each-rest, each-map}
+use Rattle.kep.proofs.ListLaws.{distinct-append}
 use Rattle.pool.proofs.Tested.{Pass, all-pass, all-held, stops}
-use Rattle.tables.proofs.Ordered.{pairwise-first, pairwise-rest}
-use Rattle.tables.proofs.ExchangeFacts.{Told}
-use Rattle.plans.proofs.InOrder.{Rises}
+use Rattle.kep.proofs.Ordered.{pairwise-first, pairwise-rest}
+use Rattle.kep.proofs.ExchangeFacts.{Told, FitRecords}
+use Rattle.kep.proofs.InOrder.{Rises}
 use Rattle.plans.proofs.Records.{Whole}
 use Rattle.plans.proofs.CheckRecord.{Next, record-accepted, record-passes, exchange-back}
 
@@ -89,14 +88,14 @@ module _ (g : Graph) (lc lp : ℕ) where
   -- ---- the check of all
 
   -- the records of exchanges that may come one after the other are accepted, with the members among their vertices
-  pub follows-accepted : g .size ≤ 14 → (i : ℕ) {met : List ℕ} {least : ℕ} (p : List (List ℕ)) → Follows met least p
+  pub follows-accepted : FitRecords g lc lp → (i : ℕ) {met : List ℕ} {least : ℕ} (p : List (List ℕ)) → Follows met least p
       → checkFrom g lc lp met least i (map (recordOf g) p) ≡ accepted (served g (met ++ flat p))
-  follows-accepted small i {met} {least} [] f = check-end met least i ∙ ap (λ xs. accepted (served g xs)) (sym (met-all met))
-  follows-accepted small i {met} {least} (xs ∷ p) f =
+  follows-accepted fit i {met} {least} [] f = check-end met least i ∙ ap (λ xs. accepted (served g xs)) (sym (met-all met))
+  follows-accepted fit i {met} {least} (xs ∷ p) f =
       let (n, rest) = follows-split xs p f in
-      check-next met least i (recordOf g xs) (map (recordOf g) p) (record-passes g lc lp small met least n)
-      ∙ ap (λ ys. checkFrom g lc lp (met ++ ys) (suc (headOf ys)) (suc i) (map (recordOf g) p)) (exchange-back g lc lp small (n .told .0))
-      ∙ follows-accepted small (suc i) p rest
+      check-next met least i (recordOf g xs) (map (recordOf g) p) (record-passes g lc lp fit met least n)
+      ∙ ap (λ ys. checkFrom g lc lp (met ++ ys) (suc (headOf ys)) (suc i) (map (recordOf g) p)) (exchange-back g lc lp fit (n .told .0))
+      ∙ follows-accepted fit (suc i) p rest
       ∙ ap (λ ys. accepted (served g ys)) (met-more met xs p)
 
   -- what accepted records are

@@ -7,20 +7,20 @@ use Prim.Native.Nat.{ℕ, _-_, _≤_, _<_}
 use native.Mathlib.Omega.{arith}
 use lib.Dec.{eqb, ltb, leb, T, leb→le, le→leb, ltb→lt, lt→ltb, eqb→eq, eqb-refl}
 use lib.ListN.{length, getD}
-use Rattle.pool.specs.Lists.{Each, none, also, all, distinct}
-use Rattle.pool.specs.Graph.{Graph, WellFormed, isAltruist}
-use Rattle.tables.specs.Exchange.{walk, lastOf, headOf}
-use Rattle.tables.specs.Table.{lowestFirst, served}
-use Rattle.plans.specs.Plan.{kindOf, recordOf}
+use Rattle.kep.specs.Lists.{Each, none, also, all, distinct}
+use Rattle.kep.specs.Graph.{Graph, WellFormed, isAltruist}
+use Rattle.kep.specs.Exchange.{walk, lastOf, headOf}
+use Rattle.kep.specs.Table.{lowestFirst, served}
+use Rattle.kep.specs.Plan.{kindOf, recordOf}
 use Rattle.plans.specs.Check.{verticesOf, fillerOf, noneLower, listsVertices, fresh, rising, joined, withinLimits, endsRight, recordTests}
-use Rattle.pool.proofs.Tests.{and-left, and-right, and-both, and-iff, passes?, is-true, is-false}
-use Rattle.pool.proofs.Each.{each-map, each-both, each-rest}
-use Rattle.pool.proofs.ListLaws.{all-each, each-all, distinct-first, distinct-append-right}
+use Rattle.kep.proofs.Tests.{and-left, and-right, and-both, and-iff, passes?, is-true, is-false}
+use Rattle.kep.proofs.Each.{each-map, each-both, each-rest}
+use Rattle.kep.proofs.ListLaws.{all-each, each-all, distinct-first, distinct-append-right}
 use Rattle.pool.proofs.Tested.{Pass}
-use Rattle.tables.proofs.Walks.{lower-lowestFirst}
-use Rattle.tables.proofs.ExchangeFacts.{Exchange, Told, exchange-below, exchange-length, exchange-some, exchange-walk}
-use Rattle.tables.proofs.Fits.{fits, fits-chain, fits-cycle, exchange-fits, fits-exchange}
-use Rattle.plans.proofs.Canonical.{head-least}
+use Rattle.kep.proofs.Walks.{lower-lowestFirst}
+use Rattle.kep.proofs.ExchangeFacts.{Exchange, Told, exchange-below, exchange-some, exchange-walk, FitRecords}
+use Rattle.kep.proofs.Fits.{fits, fits-chain, fits-cycle, exchange-fits, fits-exchange}
+use Rattle.kep.proofs.Canonical.{head-least}
 use Rattle.plans.proofs.Records.{Places, filler-all, record-vertices, record-filler, record-kind, record-count, record-back}
 
 -- ---- the tests together
@@ -139,17 +139,13 @@ module _ (g : Graph) (lc lp : ℕ) where
         record-back r whole g (p .filler) (p .kind) (p .count),
       )
 
-  module _ (small : g .size ≤ 14) where
-    -- an exchange fits a record
-    pub exchange-few : {xs : List ℕ} → Exchange g lc lp xs → length xs ≤ 14
-    exchange-few h = omega (arith, exchange-length g h)
-
+  module _ (fit : FitRecords g lc lp) where
     exchange-places : {xs : List ℕ} → Exchange g lc lp xs → Places xs
-    exchange-places h = each-map (λ x l. omega arith) (exchange-below g h)
+    exchange-places h = each-map (λ x l. omega (arith, fit .below-filler)) (exchange-below g h)
 
-    -- and is read back from it
+    -- an exchange is read back from its record
     pub exchange-back : {xs : List ℕ} → Exchange g lc lp xs → verticesOf (recordOf g xs) ≡ xs
-    exchange-back {xs} h = record-vertices g xs (exchange-few h) (exchange-places h)
+    exchange-back {xs} h = record-vertices g xs (fit .few h) (exchange-places h)
 
     -- the record of an exchange that may come next meets no cause
     pub record-passes : (met : List ℕ) (least : ℕ) {xs : List ℕ} → Next g lc lp met least xs
@@ -162,11 +158,11 @@ module _ (g : Graph) (lc lp : ℕ) where
         passes-no-cause g lc lp (fresh met) least (recordOf g xs) record {
           some = rw back (exchange-some g x);
           below = rw back (exchange-below g x);
-          filler = rw (record-filler g xs (exchange-few x) (exchange-places x)) (filler-all (14 - length xs));
+          filler = rw (record-filler g xs (fit .few x) (exchange-places x)) (filler-all (14 - length xs));
           new-here = rw back (n .apart);
           rises = rw back (lowest-rising least xs (n .told .1) (n .after));
           arcs = rw back (tests .0);
           size = rw back (tests .1);
-          kind = rw back (record-kind g xs (exchange-few x));
-          count = rw back (record-count g xs (exchange-few x));
+          kind = rw back (record-kind g xs (fit .few x));
+          count = rw back (record-count g xs (fit .few x));
         }

@@ -9,23 +9,23 @@ use lib.Bits.{bitOr}
 use lib.Dec.{T, not-T}
 use lib.ListN.{length, drop}
 use lib.Seq.{append-snoc}
-use Rattle.pool.specs.Lists.{Each, none, elem, distinct, total, cut}
-use Rattle.pool.specs.Graph.{Graph, isMember}
-use Rattle.pool.specs.Sets.{has, setOf, counted, worthOf}
+use Rattle.kep.specs.Lists.{Each, none, elem, distinct, total, cut}
+use Rattle.kep.specs.Graph.{Graph, isMember}
+use Rattle.kep.specs.Sets.{has, setOf, counted, worthOf}
 use Rattle.pool.specs.Refusals.{accepted, refused, tested}
-use Rattle.tables.specs.Exchange.{headOf}
-use Rattle.tables.specs.Table.{memberWorth, served}
+use Rattle.kep.specs.Exchange.{headOf}
+use Rattle.kep.specs.Table.{memberWorth, served}
 use Rattle.plans.specs.Record.{recordAt}
 use Rattle.plans.specs.Check.{verticesOf, fresh, recordTests, checkFrom, check}
-use Rattle.plans.specs.CheckSteps.{freshIn, added}
-use Rattle.pool.proofs.Tests.{passes?, is-true, is-false, and-both}
-use Rattle.pool.proofs.Each.{each-append}
-use Rattle.pool.proofs.ListLaws.{distinct-append, distinct-snoc, elem-iff}
-use Rattle.pool.proofs.Cut.{cut-from, cut-none}
+use Rattle.plans.specs.inner.CheckSteps.{freshIn, added}
+use Rattle.kep.proofs.Tests.{passes?, is-true, is-false, and-both}
+use Rattle.kep.proofs.Each.{each-append}
+use Rattle.kep.proofs.ListLaws.{distinct-append, distinct-snoc, elem-iff}
+use Rattle.kep.proofs.Cut.{cut-from, cut-none}
 use Rattle.pool.proofs.Tested.{Pass, all-held}
-use Rattle.pool.proofs.Vertices.{or-with}
-use Rattle.pool.proofs.SetOf.{has-setOf, setOf-snoc}
-use Rattle.pool.proofs.Worth.{total-append, list-worth, worth-le}
+use Rattle.kep.proofs.Vertices.{or-with}
+use Rattle.kep.proofs.SetOf.{has-setOf, setOf-snoc}
+use Rattle.kep.proofs.Worth.{total-append, list-worth, worth-le}
 use Rattle.plans.proofs.CheckRecord.{no-cause-passes}
 use Rattle.plans.proofs.CheckPlan.{check-next, check-stop, check-end}
 use Rattle.plans.proofs.Checked.{check-whole}

@@ -3,27 +3,26 @@
 use mathlib.Core.List.{List, [], _∷_, _++_, map}
 use mathlib.Core.Logic.{_≢_}
 use mathlib.Core.Path.{_≡_, refl, sym, _∙_, ap, ap₂}
-use Prim.Native.Nat.{ℕ, _+_, _*_, _/_, _%_, _≤_}
+use Prim.Native.Nat.{ℕ, _+_, _*_, _/_, _%_}
 use native.Mathlib.Omega.{arith}
 use lib.Dec.{eqb, eqb→eq}
 use lib.ListN.{length}
-use Rattle.pool.specs.Lists.{Each, none, also, distinct, total}
-use Rattle.plans.specs.Lists.{flat}
-use Rattle.pool.specs.Graph.{Graph, WellFormed}
-use Rattle.tables.specs.Table.{memberWorth, served}
-use Rattle.plans.specs.Plan.{inOrder, recordOf, recordsOf, recordForm}
+use Rattle.kep.specs.Lists.{Each, none, also, distinct, total, flat}
+use Rattle.kep.specs.Graph.{Graph, WellFormed}
+use Rattle.kep.specs.Table.{memberWorth, served}
+use Rattle.kep.specs.Plan.{inOrder, recordOf, recordsOf, recordForm}
 use Rattle.pool.specs.Refusals.{Outcome, accepted, refused}
 use Rattle.plans.specs.Check.{verticesOf, recordsIn, listsIn, counts, checkFrom, check, LegalForm}
-use Rattle.pool.proofs.Tests.{eq→eqb}
-use Rattle.pool.proofs.Each.{each-first, each-map, each-any, each-mapped}
+use Rattle.kep.proofs.Tests.{eq→eqb}
+use Rattle.kep.proofs.Each.{each-first, each-map, each-any, each-mapped}
 use Rattle.pool.proofs.Tested.{passes, fails, all-held}
-use Rattle.pool.proofs.Worth.{total-append}
-use Rattle.tables.proofs.ExchangeFacts.{Told}
-use Rattle.plans.proofs.Bytes.{record-length}
-use Rattle.plans.proofs.InOrder.{in-order-total}
-use Rattle.plans.proofs.Legal.{Legal, legal-of, legal-rises, in-order-told, in-order-distinct, told-in-order}
+use Rattle.kep.proofs.Worth.{total-append}
+use Rattle.kep.proofs.ExchangeFacts.{Told, FitRecords}
+use Rattle.kep.proofs.Bytes.{record-length}
+use Rattle.kep.proofs.InOrder.{in-order-total}
+use Rattle.kep.proofs.Legal.{Legal, legal-of, legal-rises, in-order-told, in-order-distinct, told-in-order}
 use Rattle.plans.proofs.Records.{Whole, record-count, cut-whole, cut-joins, whole-length, records-joined}
-use Rattle.plans.proofs.CheckRecord.{exchange-few, exchange-back}
+use Rattle.plans.proofs.CheckRecord.{exchange-back}
 use Rattle.plans.proofs.CheckPlan.{Follows, follows-accepted, accepted-follows}
 
 -- the record form is its records, joined
@@ -67,18 +66,18 @@ module _ (g : Graph) (lc lp : ℕ) where
 
   -- ---- the record form of a legal plan, read and checked
 
-  module _ (small : g .size ≤ 14) where
+  module _ (fit : FitRecords g lc lp) where
     -- exchanges are read back from their records
     lists-back : {q : List (List ℕ)} → Each (Told g lc lp) q → map verticesOf (map (recordOf g) q) ≡ q
     lists-back none = refl
-    lists-back (also t ts) = ap₂ (λ x xs. x ∷ xs) (exchange-back g lc lp small (t .0)) (lists-back ts)
+    lists-back (also t ts) = ap₂ (λ x xs. x ∷ xs) (exchange-back g lc lp fit (t .0)) (lists-back ts)
 
     -- and the bytes 15 add up to the members among their vertices
     counts-served : {q : List (List ℕ)} → Each (Told g lc lp) q → counts (map (recordOf g) q) ≡ served g (flat q)
     unfolding counts flat total
     counts-served none = refl
     counts-served (also {x = x} {xs = q} t ts) =
-        ap₂ (λ a b. a + b) (record-count g x (exchange-few g lc lp small (t .0))) (counts-served ts) ∙ sym (total-append (memberWorth g) x (flat q))
+        ap₂ (λ a b. a + b) (record-count g x (fit .few (t .0))) (counts-served ts) ∙ sym (total-append (memberWorth g) x (flat q))
 
     module _ (p : List (List ℕ)) (legal : Legal g lc lp p) where
       told : Each (Told g lc lp) (inOrder p)
@@ -89,7 +88,7 @@ module _ (g : Graph) (lc lp : ℕ) where
       form-flat = records-flat g (inOrder p)
 
       form-whole : Whole 16 (map (recordOf g) (inOrder p))
-      form-whole = each-mapped (recordOf g) (λ x t. record-length g x (exchange-few g lc lp small (t .0))) told
+      form-whole = each-mapped (recordOf g) (λ x t. record-length g x (fit .few (t .0))) told
 
       form-multiple : length (recordForm g p) % 16 ≡ 0
       form-multiple = rw form-flat (omega (arith, whole-length 16 form-whole))
@@ -117,7 +116,7 @@ module _ (g : Graph) (lc lp : ℕ) where
           } in
           check-whole (recordForm g p) form-multiple
           ∙ ap (checkFrom g lc lp [] 0 0) form-records
-          ∙ follows-accepted g lc lp small 0 (inOrder p) f
+          ∙ follows-accepted g lc lp fit 0 (inOrder p) f
           ∙ ap (λ k. accepted k) (in-order-total (memberWorth g) p)
 
     -- the record form determines the plan in order

@@ -9,15 +9,13 @@ use lib.Dec.{eqb, T, eqb→eq}
 use lib.ListN.{length, take, drop, getD, replicate, length-append, length-drop, length-replicate, take-append-drop, drop-of-length-le}
 use lib.Seq.{take-at, drop-at, getD-at, drop-cons, length-take-le, append-snoc}
 use borrow.Author.Tests.{ne-eqb}
-use Rattle.pool.specs.Lists.{Each, none, also, all}
-use Rattle.plans.specs.Lists.{flat}
-use Rattle.pool.specs.Graph.{Graph}
-use Rattle.tables.specs.Table.{served}
-use Rattle.plans.specs.Plan.{kindOf, recordOf}
+use Rattle.kep.specs.Lists.{Each, none, also, all, flat, cut}
+use Rattle.kep.specs.Graph.{Graph}
+use Rattle.kep.specs.Table.{served}
+use Rattle.kep.specs.Plan.{kindOf, recordOf}
 use Rattle.plans.specs.Check.{listed, unlisted, verticesOf, fillerOf, recordsIn}
-use Rattle.pool.specs.Lists.{cut}
-use Rattle.pool.proofs.ListLaws.{all-each}
-use Rattle.plans.proofs.Bytes.{padded}
+use Rattle.kep.proofs.ListLaws.{all-each}
+use Rattle.kep.proofs.Bytes.{padded}
 
 -- ---- the places of a record
 

@@ -12,12 +12,12 @@ use lib.Dec.{T}
 use lib.ListN.{length, drop, getD, drop-of-length-le}
 use lib.Pow.{pow-lt}
 use lib.Seq.{drop-cons}
-use Rattle.pool.specs.Lists.{all, Each, none, also}
-use Rattle.pool.specs.Sets.{has, withVertex}
-use Rattle.plans.specs.CheckSteps.{freshIn, added}
-use Rattle.pool.proofs.ListLaws.{all-cons}
-use Rattle.pool.proofs.Vertices.{bit-test}
-use Rattle.pool.proofs.Operations.{one-shl, with-or}
+use Rattle.kep.specs.Lists.{all, Each, none, also}
+use Rattle.kep.specs.Sets.{has, withVertex}
+use Rattle.plans.specs.inner.CheckSteps.{freshIn, added}
+use Rattle.kep.proofs.ListLaws.{all-cons}
+use Rattle.kep.proofs.Vertices.{bit-test}
+use Rattle.kep.proofs.Operations.{one-shl, with-or}
 use Rattle.plans.proofs.CheckSteps.{fresh-seen, fresh-new}
 
 -- the rest from i on is what stands at i, and the rest from the next on; at the end there is none

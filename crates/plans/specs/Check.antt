@@ -5,13 +5,12 @@ use mathlib.Core.Path.{_≡_}
 use Prim.Native.Nat.{ℕ, suc, _+_, _/_, _%_}
 use lib.Dec.{T, eqb, ltb, leb}
 use lib.ListN.{length, take, getD}
-use Rattle.pool.specs.Lists.{all, distinct, total, cut}
-use Rattle.pool.specs.Graph.{Graph, isAltruist}
+use Rattle.kep.specs.Lists.{all, distinct, total, cut, flat}
+use Rattle.kep.specs.Graph.{Graph, isAltruist}
 use Rattle.pool.specs.Refusals.{Outcome, accepted, tested}
-use Rattle.tables.specs.Exchange.{walk, lastOf, headOf}
-use Rattle.tables.specs.Table.{served}
-use Rattle.plans.specs.Lists.{flat}
-use Rattle.plans.specs.Plan.{kindOf, isLegal, recordForm}
+use Rattle.kep.specs.Exchange.{walk, lastOf, headOf}
+use Rattle.kep.specs.Table.{served}
+use Rattle.kep.specs.Plan.{kindOf, isLegal, recordForm}
 
 -- ---- reading plan bytes
 

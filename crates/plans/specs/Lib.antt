@@ -1,10 +1,4 @@
-pub mod Lists
-pub mod Plan
-pub mod Paths
-pub mod Seeking
-pub mod Taking
-pub mod Clearing
 pub mod Record
 pub mod Check
-pub mod CheckSteps
 pub mod CheckCall
+pub mod inner

@@ -4,10 +4,10 @@ use pool::Pool;
 ghost use mathlib.Core.Path.{_≡_};
 ghost use Prim.Native.Nat.{_≤_, _<_};
 ghost use lib.ListN.{length, drop};
-ghost use Rattle.pool.specs.Lists.{Each};
+ghost use Rattle.kep.specs.Lists.{Each};
 ghost use Rattle.pool.specs.Value.{graphOf};
-ghost use Rattle.tables.specs.Exchange.{walk, headOf};
-ghost use Rattle.tables.specs.Table.{served};
+ghost use Rattle.kep.specs.Exchange.{walk, headOf};
+ghost use Rattle.kep.specs.Table.{served};
 ghost use Rattle.plans.specs.Check.{joined, withinLimits};
 
 // Is there an arc from one vertex to another?

@@ -16,10 +16,10 @@ ghost use mathlib.Core.Path.{_≡_};
 ghost use Prim.Native.Nat.{_≤_};
 ghost use lib.ListN.{length};
 ghost use Rattle.pool.specs.Value.{graphOf};
-ghost use Rattle.tables.specs.Exchange.{headOf};
-ghost use Rattle.tables.specs.Table.{served};
+ghost use Rattle.kep.specs.Exchange.{headOf};
+ghost use Rattle.kep.specs.Table.{served};
 ghost use Rattle.plans.specs.Check.{verticesOf, listsVertices, rising, endsRight};
-ghost use Rattle.plans.specs.CheckSteps.{Listed, RecordChecked};
+ghost use Rattle.plans.specs.inner.CheckSteps.{Listed, RecordChecked};
 
 // A record that meets no cause: the vertices met with its own, its first vertex, its members.
 pub(crate) struct Passed {

@@ -3,9 +3,9 @@ use pool::VertexSet;
 ghost use mathlib.Core.Path.{_≡_};
 ghost use Prim.Native.Nat.{_<_};
 ghost use lib.ListN.{length};
-ghost use Rattle.pool.specs.Lists.{Each};
+ghost use Rattle.kep.specs.Lists.{Each};
 ghost use Rattle.plans.specs.Check.{verticesOf, allBelow, allFiller, noneLower};
-ghost use Rattle.plans.specs.CheckSteps.{freshIn, added};
+ghost use Rattle.plans.specs.inner.CheckSteps.{freshIn, added};
 
 // How many vertices a record of sixteen bytes lists: the bytes before the first 255, of its bytes 0 to 13.
 pub(crate) fn vertex_count(bytes: &[u8]) -> usize

@@ -1,24 +1,6 @@
--- lists, and the tests on them
-pub mod Tests
-pub mod Each
-pub mod ListLaws
-pub mod Permutations
-pub mod Tables
-pub mod Cut
--- sets as numbers
-pub mod SetLaws
-pub mod Parts
-pub mod Down
-pub mod Vertices
-pub mod SetOf
-pub mod Worth
-pub mod Operations
-pub mod SetLoops
-pub mod LowestBit
-pub mod Sifting
-pub mod MachineBits
 -- tests in order
 pub mod Tested
+pub mod TestsInOrder
 -- a pool as a value, and limits
 pub mod ValueLaws
 pub mod Accepted

@@ -1,66 +1,66 @@
 -- Reading pool bytes: each way it ends; what an accepted pool is.
-use mathlib.Core.Bool.{Bool, false, _||_}
 use mathlib.Core.List.{List, [], _∷_, _++_}
 use mathlib.Core.Logic.{_≢_}
 use mathlib.Core.Path.{_≡_, refl, sym, ap, _∙_}
-use Prim.Native.Nat.{ℕ, suc, _+_, _-_, _/_, _%_, _≤_, _<_}
+use Prim.Native.Nat.{ℕ, _-_, _/_, _%_, _≤_, _<_}
 use native.Mathlib.Omega.{arith}
-use lib.Dec.{eqb, leb, eqb→eq, leb→le, le→leb}
+use lib.Dec.{eqb→eq, leb→le, le→leb}
 use lib.ListN.{length, replicate}
 use Rattle.pool.specs.declared.refusal.Cause.{Cause}
 use Rattle.pool.specs.declared.refusal.Verdict.the-variants as verdict
 use Rattle.pool.specs.declared.value.Pool.{Pool}
 use Rattle.pool.specs.declared.reading.PoolAnswer.{PoolAnswer}
-use Rattle.pool.specs.Lists.{tabulate}
+use Rattle.kep.specs.Lists.{tabulate, none, also}
 use Rattle.pool.specs.Refusals.{numberOf, Outcome, accepted, refused, outcomeOf, tested, andThen}
-use Rattle.pool.specs.Records.{recordSize, tellsMember, recordTests, recordsTested, recordsIn, takersOf, poolOf, readPool}
-use Rattle.pool.specs.Reading.{poolBeside, refusedAnswer}
-use Rattle.pool.proofs.Tests.{eq→eqb}
-use Rattle.pool.proofs.Tested.{tested-then, passes, fails}
-use Rattle.pool.proofs.Cut.{length-cut}
+use Rattle.pool.specs.Records.{recordWidth, mostRecords, lengthTests, fieldTests, recordsTested, poolRecords, takersOf, poolOf, readPool, poolBeside}
+use Rattle.pool.specs.inner.Reading.{refusedAnswer}
+use Rattle.kep.proofs.Tests.{eq→eqb}
+use Rattle.pool.proofs.Tested.{tested-then, all-pass, first-fails}
+use Rattle.kep.proofs.Cut.{length-cut}
 use Rattle.pool.proofs.Scanning.{houses, whole}
 
 -- what follows the rest follows the records
-records-then : {A B : Type 0} (after : Bool) (i : ℕ) (rs : List (List ℕ)) (o : Outcome A) (f : A → Outcome B)
-    → recordsTested after i rs (andThen o f) ≡ andThen (recordsTested after i rs o) f
+records-then : {A B : Type 0} (before rs : List (List ℕ)) (o : Outcome A) (f : A → Outcome B)
+    → recordsTested before rs (andThen o f) ≡ andThen (recordsTested before rs o) f
 unfolding recordsTested
-records-then after i [] o f = refl
-records-then after i (r ∷ rs) o f =
-    ap (λ x. tested (recordTests after r) i x) (records-then (after || tellsMember r) (suc i) rs o f)
-    ∙ tested-then (recordTests after r) i (recordsTested (after || tellsMember r) (suc i) rs o) f
+records-then before [] o f = refl
+records-then before (r ∷ rs) o f =
+    ap (λ x. tested (fieldTests before r) (length before) x) (records-then (before ++ (r ∷ [])) rs o f)
+    ∙ tested-then (fieldTests before r) (length before) (recordsTested (before ++ (r ∷ [])) rs o) f
+
+-- what was accepted is what was to be
+pub records-accepted : {A : Type 0} {a b : A} (before rs : List (List ℕ)) → recordsTested before rs (accepted a) ≡ accepted b → b ≡ a
+records-accepted {A} {a} {b} before rs e =
+    let same : accepted b ≡ accepted a = sym e ∙ records-then before rs (accepted a) (λ _. accepted a) ∙ ap (λ o. andThen o (λ _. accepted a)) e in
+    cc
 
 -- ---- each way that the reading ends
 
 module _ (bytes : List ℕ) where
   abbrev rest : Outcome Pool
-  rest = recordsTested false 0 (recordsIn bytes) (accepted (poolOf (recordsIn bytes)))
+  rest = recordsTested [] (poolRecords bytes) (accepted (poolOf (poolRecords bytes)))
 
-  pub read-uneven : length bytes % recordSize ≢ 0 → readPool bytes ≡ refused 1 0
+  in-order : readPool bytes ≡ tested (lengthTests bytes) 0 rest
   unfolding readPool
-  read-uneven n = fails 1 (eqb (length bytes % recordSize) 0) ((2, leb (length bytes / recordSize) 14) ∷ []) 0 rest (λ t. n (eqb→eq (length bytes % recordSize) 0 t))
+  in-order = refl
 
-  module _ (even : length bytes % recordSize ≡ 0) where
-    whole-records : readPool bytes ≡ tested ((2, leb (length bytes / recordSize) 14) ∷ []) 0 rest
-    unfolding readPool
-    whole-records = passes 1 (eqb (length bytes % recordSize) 0) ((2, leb (length bytes / recordSize) 14) ∷ []) 0 rest (eq→eqb (length bytes % recordSize) 0 even)
+  pub read-uneven : length bytes % recordWidth ≢ 0 → readPool bytes ≡ refused 1 0
+  read-uneven n = in-order ∙ first-fails 0 rest [] 1 _ _ none (λ t. n (eqb→eq (length bytes % recordWidth) 0 t))
 
-    pub read-many : 14 < length bytes / recordSize → readPool bytes ≡ refused 2 0
-    read-many h = whole-records ∙ fails 2 (leb (length bytes / recordSize) 14) [] 0 rest (λ t. omega (arith, leb→le (length bytes / recordSize) 14 t))
+  module _ (even : length bytes % recordWidth ≡ 0) where
+    pub read-many : mostRecords < length bytes / recordWidth → readPool bytes ≡ refused 2 0
+    read-many h =
+        in-order
+        ∙ first-fails 0 rest (_ ∷ []) 2 _ _ (also (eq→eqb (length bytes % recordWidth) 0 even) none)
+        (λ t. omega (arith, leb→le (length bytes / recordWidth) mostRecords t))
 
-    module _ (few : length bytes / recordSize ≤ 14) where
-      -- the records decide
-      by-records : readPool bytes ≡ andThen (whole bytes) (λ _. accepted (poolOf (recordsIn bytes)))
-      unfolding tested
-      by-records =
-          whole-records
-          ∙ passes 2 (leb (length bytes / recordSize) 14) [] 0 rest (le→leb (length bytes / recordSize) 14 few)
-          ∙ records-then false 0 (recordsIn bytes) (accepted (houses (recordsIn bytes))) (λ _. accepted (poolOf (recordsIn bytes)))
-
-      pub read-stop : {n at : ℕ} → refused n at ≡ whole bytes → readPool bytes ≡ refused n at
-      read-stop e = by-records ∙ ap (λ o. andThen o (λ _. accepted (poolOf (recordsIn bytes)))) (sym e)
-
-      pub read-done : {h : ℕ} → accepted h ≡ whole bytes → readPool bytes ≡ accepted (poolOf (recordsIn bytes))
-      read-done e = by-records ∙ ap (λ o. andThen o (λ _. accepted (poolOf (recordsIn bytes)))) (sym e)
+    -- the records decide
+    pub read-by : length bytes / recordWidth ≤ mostRecords → {o : Outcome ℕ} → o ≡ whole bytes → readPool bytes ≡ andThen o (λ _. accepted (poolOf (poolRecords bytes)))
+    read-by few e =
+        in-order
+        ∙ all-pass 0 rest (also (eq→eqb (length bytes % recordWidth) 0 even) (also (le→leb (length bytes / recordWidth) mostRecords few) none))
+        ∙ records-then [] (poolRecords bytes) (accepted (houses (poolRecords bytes))) (λ _. accepted (poolOf (poolRecords bytes)))
+        ∙ ap (λ o. andThen o (λ _. accepted (poolOf (poolRecords bytes)))) (sym e)
 
 -- ---- the answer that code makes of it
 
@@ -74,15 +74,9 @@ answer-refused bytes c at e f = rw e (f, ap poolBeside f)
 pub answer-accepted : (bytes : List ℕ) (p : Pool) → accepted p ≡ readPool bytes → Answers bytes (record { verdict = verdict.Accepted; pool = p })
 answer-accepted bytes p f = (f, ap poolBeside f)
 
--- a scan that came to its end counted the houses
-pub counted-houses : (bytes : List ℕ) {h : ℕ} → accepted h ≡ whole bytes → h ≡ houses (recordsIn bytes)
-counted-houses bytes {h} e =
-    let o = ap (λ o. andThen o (λ _. accepted (houses (recordsIn bytes)))) e ∙ sym (records-then false 0 (recordsIn bytes) (accepted (houses (recordsIn bytes))) (λ _. accepted (houses (recordsIn bytes)))) ∙ sym e in
-    cc
-
 -- the pool put together from what was counted and from the takers
-pub pool-read : (bytes : List ℕ) {size altruists : ℕ} {gives : List ℕ} → size ≡ length bytes / recordSize → altruists ≡ houses (recordsIn bytes)
-    → gives ≡ tabulate (takersOf (recordsIn bytes)) (length bytes / recordSize) ++ replicate (14 - length bytes / recordSize) 0
-    → record { size = size; altruists = altruists; gives = gives } ≡ poolOf (recordsIn bytes)
+pub pool-read : (bytes : List ℕ) {size altruists : ℕ} {gives : List ℕ} → size ≡ length bytes / recordWidth → altruists ≡ houses (poolRecords bytes)
+    → gives ≡ tabulate (takersOf (poolRecords bytes)) (length bytes / recordWidth) ++ replicate (mostRecords - length bytes / recordWidth) 0
+    → record { size = size; altruists = altruists; gives = gives } ≡ poolOf (poolRecords bytes)
 unfolding poolOf
-pool-read bytes p q r = rw (p, q, r, length-cut recordSize (length bytes / recordSize) bytes)
+pool-read bytes p q r = rw (p, q, r, length-cut recordWidth (length bytes / recordWidth) bytes)

@@ -1,67 +1,65 @@
 -- What pool bytes that are read hold: a pool value that passes its test, with arcs by the rule of document 01.
-use mathlib.Core.Bool.{Bool, true, false, not, _&&_, _||_}
-use mathlib.Core.List.{List, [], _∷_}
+use mathlib.Core.Bool.{not, _||_}
+use mathlib.Core.List.{List, [], _∷_, _++_}
 use mathlib.Core.Logic.{_↔_}
-use mathlib.Core.Path.{_≡_, refl, sym, ap, _∙_}
-use Prim.Native.Nat.{ℕ, zero, suc, _-_, _/_, _%_, _≤_, _<_}
+use mathlib.Core.Path.{_≡_, refl, ap, _∙_}
+use Prim.Native.Nat.{ℕ, zero, suc, _-_, _/_, _≤_, _<_}
 use native.Mathlib.Decide.{decLt}
 use native.Mathlib.Omega.{arith}
 use lib.Dec.{T, eqb, leb, ltb, eqb→eq, leb→le, le→leb, lt→ltb, T-not}
 use lib.ListN.{length, getD, replicate}
 use Rattle.pool.specs.declared.value.Pool.{Pool}
-use Rattle.pool.specs.Lists.{keep}
-use Rattle.pool.specs.Sets.{has}
-use Rattle.pool.specs.Graph.{WellFormed}
+use Rattle.kep.specs.Lists.{keep}
+use Rattle.kep.specs.Sets.{has}
+use Rattle.kep.specs.Graph.{WellFormed}
 use Rattle.pool.specs.Refusals.{Outcome, accepted}
 use Rattle.pool.specs.Value.{graphOf, arcAllowed, arcsFit, takersFit, poolFits}
-use Rattle.pool.specs.Records.{recordSize, classOf, gradeOf, leastOf, takenOf, tellsHouse, tellsMember, recordTests, recordsTested, recordGives, recordsIn, takersOf, poolOf, readPool, GivesTo}
-use Rattle.pool.proofs.Tests.{is-true, is-false, and-iff₃, implies-iff, or-right}
-use Rattle.pool.proofs.Each.{each-first, each-rest, keep-no, keep-one, keep-length}
-use Rattle.pool.proofs.ListLaws.{all-below}
-use Rattle.pool.proofs.Tables.{getD-tabulate, getD-after}
-use Rattle.pool.proofs.SetLaws.{not-in-empty}
-use Rattle.pool.proofs.Vertices.{in-where}
+use Rattle.pool.specs.Records.{recordWidth, mostRecords, lengthTests, classOf, gradeOf, leastOf, takenOf, tellsHouse, tellsMember, noneOf, fieldTests, recordsTested, recordGives, poolRecords, takersOf, poolOf, readPool, GivesTo}
+use Rattle.kep.proofs.Tests.{is-false, and-left, and-right, and-iff₃, implies-iff}
+use Rattle.kep.proofs.Each.{each-first, each-rest, keep-no, keep-one, keep-length}
+use Rattle.kep.proofs.ListLaws.{all-below}
+use Rattle.kep.proofs.Tables.{getD-tabulate, getD-after}
+use Rattle.kep.proofs.SetLaws.{not-in-empty}
+use Rattle.kep.proofs.Vertices.{in-where}
 use Rattle.pool.proofs.ValueLaws.{fits-iff, fits-formed, arc-iff}
-use Rattle.pool.proofs.Cut.{length-cut}
+use Rattle.kep.proofs.Cut.{length-cut}
 use Rattle.pool.proofs.Tested.{all-held}
-use Rattle.pool.proofs.Scanning.{houses, other-kind}
+use Rattle.pool.proofs.RecordLaws.{other-kind, none-more}
+use Rattle.pool.proofs.Scanning.{houses}
+use Rattle.pool.proofs.ReadLaws.{records-accepted}
 
 -- ---- houses come first
 
 -- what passing says of the first record and of the rest
-record-passed : {A : Type 0} {a : A} (after : Bool) (i : ℕ) (r : List ℕ) (rs : List (List ℕ)) (o : Outcome A) → recordsTested after i (r ∷ rs) o ≡ accepted a
-    → (T (after && tellsHouse r) → ⊥) × (recordsTested (after || tellsMember r) (suc i) rs o ≡ accepted a)
-unfolding recordsTested recordTests
-record-passed after i r rs o e =
-    let (hs, rest) = all-held (recordTests after r) i (recordsTested (after || tellsMember r) (suc i) rs o) e in
-    (T-not (after && tellsHouse r) (each-first (each-rest (each-rest hs))), rest)
+record-passed : {A : Type 0} {a : A} (before : List (List ℕ)) (r : List ℕ) (rs : List (List ℕ)) (o : Outcome A) → recordsTested before (r ∷ rs) o ≡ accepted a
+    → (T (tellsHouse r) → T (noneOf tellsMember before)) × (recordsTested (before ++ (r ∷ [])) rs o ≡ accepted a)
+unfolding recordsTested fieldTests
+record-passed before r rs o e =
+    let (hs, rest) = all-held (fieldTests before r) (length before) (recordsTested (before ++ (r ∷ [])) rs o) e in
+    (implies-iff (tellsHouse r) (noneOf tellsMember before) .0 (each-first (each-rest (each-rest hs))), rest)
 
 -- no house comes after a member
-none-later : {A : Type 0} {a : A} (i : ℕ) (rs : List (List ℕ)) (o : Outcome A) → recordsTested true i rs o ≡ accepted a → houses rs ≡ 0
+none-later : {A : Type 0} {a : A} (before rs : List (List ℕ)) (o : Outcome A) → (T (noneOf tellsMember before) → ⊥) → recordsTested before rs o ≡ accepted a
+    → houses rs ≡ 0
 unfolding keep
-none-later i [] o e = refl
-none-later i (r ∷ rs) o e =
-    let (late, rest) = record-passed true i r rs o e in
-    ap length (keep-no tellsHouse r rs (is-false (tellsHouse r) late)) ∙ none-later (suc i) rs o rest
+none-later before [] o n e = refl
+none-later before (r ∷ rs) o n e =
+    let (late, rest) = record-passed before r rs o e in
+    ap length (keep-no tellsHouse r rs (is-false (tellsHouse r) (λ t. n (late t))))
+    ∙ none-later (before ++ (r ∷ [])) rs o (λ t. n (and-left (noneOf tellsMember before) (not (tellsMember r)) (rw (none-more tellsMember r before) at t))) rest
 
 -- so a member's place is not below the number of houses
-pub member-above : {A : Type 0} {a : A} (after : Bool) (i : ℕ) (rs : List (List ℕ)) (o : Outcome A) → recordsTested after i rs o ≡ accepted a
+pub member-above : {A : Type 0} {a : A} (before rs : List (List ℕ)) (o : Outcome A) → recordsTested before rs o ≡ accepted a
     → (v : ℕ) → T (tellsMember (getD rs v [])) → houses rs ≤ v
 unfolding keep
-member-above after i [] o e v t = omega arith
-member-above {A} {a} after i (r ∷ rs) o e zero t =
-    let (late, rest) = record-passed after i r rs o e in
-    let none-left = none-later (suc i) rs o (sym (ap (λ b. recordsTested b (suc i) rs o) (is-true _ (or-right after (tellsMember r) t))) ∙ rest) in
-    omega (arith, ap length (keep-no tellsHouse r rs (other-kind r (eqb→eq _ _ t))) ∙ none-left)
-member-above after i (r ∷ rs) o e (suc v) t =
-    let (late, rest) = record-passed after i r rs o e in
-    omega (arith, keep-one tellsHouse r rs, member-above (after || tellsMember r) (suc i) rs o rest v t)
-
--- what was accepted is what was to be
-records-accepted : {A : Type 0} {b : A} (after : Bool) (i : ℕ) (rs : List (List ℕ)) (a : A) → recordsTested after i rs (accepted a) ≡ accepted b → b ≡ a
-unfolding recordsTested
-records-accepted after i [] a e = cc
-records-accepted after i (r ∷ rs) a e = records-accepted (after || tellsMember r) (suc i) rs a (record-passed after i r rs (accepted a) e .1)
+member-above before [] o e v t = omega arith
+member-above before (r ∷ rs) o e zero t =
+    let (late, rest) = record-passed before r rs o e in
+    let met : T (noneOf tellsMember (before ++ (r ∷ []))) → ⊥ =
+    λ n. T-not (tellsMember r) (and-right (noneOf tellsMember before) (not (tellsMember r)) (rw (none-more tellsMember r before) at n)) t in
+    omega (arith, ap length (keep-no tellsHouse r rs (other-kind r (eqb→eq _ _ t))) ∙ none-later (before ++ (r ∷ [])) rs o met rest)
+member-above before (r ∷ rs) o e (suc v) t =
+    omega (arith, keep-one tellsHouse r rs, member-above (before ++ (r ∷ [])) rs o (record-passed before r rs o e .1) v t)
 
 -- what it is for one record to give to another
 gives-iff : (giver taker : List ℕ)
@@ -76,15 +74,15 @@ getD-zeros zero i = refl
 getD-zeros (suc n) zero = refl
 getD-zeros (suc n) (suc i) = getD-zeros n i
 
-module _ {A : Type 0} {a : A} (rs : List (List ℕ)) (few : length rs ≤ 14) (o : Outcome A) (passed : recordsTested false 0 rs o ≡ accepted a) where
+module _ {A : Type 0} {a : A} (rs : List (List ℕ)) (few : length rs ≤ mostRecords) (o : Outcome A) (passed : recordsTested [] rs o ≡ accepted a) where
   -- the set of u, and nothing from a place that is not there
   gives-at : (u : ℕ) → u < length rs → getD (poolOf rs .gives) u 0 ≡ takersOf rs u
   unfolding poolOf
-  gives-at u h = getD-tabulate (takersOf rs) (length rs) u (replicate (14 - length rs) 0) h
+  gives-at u h = getD-tabulate (takersOf rs) (length rs) u (replicate (mostRecords - length rs) 0) h
 
   gives-behind : (u : ℕ) → length rs ≤ u → getD (poolOf rs .gives) u 0 ≡ 0
   unfolding poolOf
-  gives-behind u h = getD-after (takersOf rs) (length rs) u (replicate (14 - length rs) 0) h ∙ getD-zeros (14 - length rs) (u - length rs)
+  gives-behind u h = getD-after (takersOf rs) (length rs) u (replicate (mostRecords - length rs) 0) h ∙ getD-zeros (mostRecords - length rs) (u - length rs)
 
   -- an arc leads from a place to a member's, by the rule
   pub in-gives : (u v : ℕ) → T (has (getD (poolOf rs .gives) u 0) v) ↔ ((u < length rs) × (v < length rs) × T (recordGives (getD rs u []) (getD rs v [])))
@@ -111,27 +109,27 @@ module _ {A : Type 0} {a : A} (rs : List (List ℕ)) (few : length rs ≤ 14) (o
           let (lu, lv, g) = in-gives u v .0 t in
           let member = gives-iff (getD rs u []) (getD rs v []) .0 g .0 in
           and-iff₃ (ltb u (length rs)) (leb (houses rs) v) (ltb v (length rs)) .1
-          (lt→ltb u (length rs) lu, le→leb (houses rs) v (member-above false 0 rs o passed v member), lt→ltb v (length rs) lv)
+          (lt→ltb u (length rs) lu, le→leb (houses rs) v (member-above [] rs o passed v member), lt→ltb v (length rs) lv)
 
 -- ---- pool bytes that are read
 
 module _ (bytes : List ℕ) {p : Pool} (read : readPool bytes ≡ accepted p) where
   -- their records pass, and the pool is made of them
-  parts : (length bytes / recordSize ≤ 14) × (recordsTested false 0 (recordsIn bytes) (accepted (poolOf (recordsIn bytes))) ≡ accepted p)
+  parts : (length bytes / recordWidth ≤ mostRecords) × (recordsTested [] (poolRecords bytes) (accepted (poolOf (poolRecords bytes))) ≡ accepted p)
   unfolding readPool
   parts =
-      let (hs, rest) = all-held ((1, eqb (length bytes % recordSize) 0) ∷ (2, leb (length bytes / recordSize) 14) ∷ []) 0 (recordsTested false 0 (recordsIn bytes) (accepted (poolOf (recordsIn bytes)))) read in
-      (leb→le (length bytes / recordSize) 14 (each-first (each-rest hs)), rest)
+      let (hs, rest) = all-held (lengthTests bytes) 0 (recordsTested [] (poolRecords bytes) (accepted (poolOf (poolRecords bytes)))) read in
+      (leb→le (length bytes / recordWidth) mostRecords (each-first (each-rest hs)), rest)
 
-  pub read-is : p ≡ poolOf (recordsIn bytes)
-  read-is = records-accepted false 0 (recordsIn bytes) (poolOf (recordsIn bytes)) (parts .1)
+  pub read-is : p ≡ poolOf (poolRecords bytes)
+  read-is = records-accepted [] (poolRecords bytes) (parts .1)
 
-  few : length (recordsIn bytes) ≤ 14
-  few = rw (length-cut recordSize (length bytes / recordSize) bytes) (parts .0)
+  few : length (poolRecords bytes) ≤ mostRecords
+  few = rw (length-cut recordWidth (length bytes / recordWidth) bytes) (parts .0)
 
   -- an accepted pool passes the test of a pool value, and its graph is well formed
   pub read-fits : T (poolFits p)
-  read-fits = rw read-is (records-fit (recordsIn bytes) few (accepted (poolOf (recordsIn bytes))) (parts .1))
+  read-fits = rw read-is (records-fit (poolRecords bytes) few (accepted (poolOf (poolRecords bytes))) (parts .1))
 
   pub read-formed : WellFormed (graphOf p)
   read-formed = fits-formed p read-fits
@@ -139,7 +137,7 @@ module _ (bytes : List ℕ) {p : Pool} (read : readPool bytes ≡ accepted p) wh
   -- in its graph u has an arc to v exactly where document 01 says that u gives to v
   pub read-arcs : (u v : ℕ) → T (graphOf p .arc u v) ↔ GivesTo bytes u v
   read-arcs u v =
-      let rs = recordsIn bytes in
+      let rs = poolRecords bytes in
       let (to, from) = in-gives rs few (accepted (poolOf rs)) (parts .1) u v in
       let (rule, back) = gives-iff (getD rs u []) (getD rs v []) in
       rw read-is (
@@ -151,11 +149,11 @@ module _ (bytes : List ℕ) {p : Pool} (read : readPool bytes ≡ accepted p) wh
             arc-iff (poolOf rs) u v .1 (size lu, size lv, from (lu, lv, back (h .taker-member, h .class-taken, le→leb (leastOf (getD rs v [])) (gradeOf (getD rs u [])) (h .grade-enough)))),
       )
     where
-      there : {i : ℕ} → i < length (recordsIn bytes) → i < length bytes / recordSize
-      there h = rw (length-cut recordSize (length bytes / recordSize) bytes) at h
+      there : {i : ℕ} → i < length (poolRecords bytes) → i < length bytes / recordWidth
+      there h = rw (length-cut recordWidth (length bytes / recordWidth) bytes) at h
 
-      places : {i : ℕ} → i < length bytes / recordSize → i < length (recordsIn bytes)
-      places h = rw (length-cut recordSize (length bytes / recordSize) bytes) h
+      places : {i : ℕ} → i < length bytes / recordWidth → i < length (poolRecords bytes)
+      places h = rw (length-cut recordWidth (length bytes / recordWidth) bytes) h
 
-      size : {i : ℕ} → i < length (recordsIn bytes) → i < poolOf (recordsIn bytes) .size
+      size : {i : ℕ} → i < length (poolRecords bytes) → i < poolOf (poolRecords bytes) .size
       size h = unfold poolOf in h

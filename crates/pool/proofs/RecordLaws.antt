@@ -1,70 +1,101 @@
--- One record as code reads it: its fields, its causes, and whether it gives to another.
-use mathlib.Core.Bool.{Bool, true, false, not, _&&_, _||_, true≢false}
-use mathlib.Core.List.{List, [], _∷_}
-use mathlib.Core.Logic.{_⊎_, ⊎-elim, _≢_}
+-- One record as code reads it: its kind, and its causes in their order.
+use mathlib.Core.Bool.{Bool, true, false, not, _&&_, _||_, and-true, and-false}
+use mathlib.Core.List.{List, [], _∷_, _++_}
+use mathlib.Core.Logic.{_↔_, ⊎-elim, _≢_}
 use mathlib.Core.Path.{_≡_, refl, sym, ap, _∙_}
-use Prim.Native.Nat.{ℕ, _≤_}
+use Prim.Native.Nat.{ℕ, _+_}
 use native.Mathlib.Omega.{arith}
-use lib.Dec.{T, eqb, leb, T-not, not-T}
-use borrow.Author.Tests.{eq-eqb, ne-eqb, le-leb}
+use lib.Dec.{T, eqb, T-not, not-T}
+use lib.ListN.{length}
+use borrow.Author.Tests.{eq-eqb, ne-eqb}
+use Rattle.kep.specs.Lists.{keep, none, also}
 use Rattle.pool.specs.Refusals.{Outcome, accepted, refused, tested}
-use Rattle.pool.specs.Records.{kindOf, classOf, gradeOf, leastOf, takenOf, tellsHouse, tellsMember, fieldsFit, recordTests}
-use Rattle.pool.proofs.Tests.{and-left, and-right, and-both, or-left, or-right, or-cases, from-true, from-false, eq→eqb}
-use Rattle.pool.proofs.Tested.{passes, fails}
+use Rattle.pool.specs.Records.{recordKind, tellsHouse, tellsMember, fieldsFit, noneOf, fieldTests}
+use Rattle.kep.proofs.Tests.{passes?, implies-iff, or-cases, from-false}
+use Rattle.kep.proofs.Each.{keep-yes, keep-no}
+use Rattle.pool.proofs.Tested.{all-pass, first-fails}
 
--- ---- the fields
+-- a member's record is no house's
+pub other-kind : (r : List ℕ) → recordKind r ≡ 77 → tellsHouse r ≡ false
+other-kind r e = ne-eqb (recordKind r) 72 (λ f. omega arith)
 
--- of a member, where class and grade are in their ranges, the least grade is left to test
-pub member-fields : (r : List ℕ) → classOf r ≤ 31 → gradeOf r ≤ 100 → kindOf r ≢ 72 → leb (leastOf r) 100 ≡ fieldsFit r
-unfolding fieldsFit
-member-fields r c g k = sym (rw (le-leb (classOf r) 31 c, le-leb (gradeOf r) 100 g) (go (tellsHouse r) (ne-eqb (kindOf r) 72 k)))
-  where
-    go : (b : Bool) → b ≡ false → elim b [ true ↦ eqb (leastOf r) 0 && eqb (takenOf r) 0 | false ↦ leb (leastOf r) 100 ] ≡ leb (leastOf r) 100
-    go true e = absurd (true≢false e)
-    go false e = refl
+-- ---- one record more
+
+module _ (p : List ℕ → Bool) (r : List ℕ) where
+  pub keep-more : (rs : List (List ℕ)) → length (keep p (rs ++ (r ∷ []))) ≡ length (keep p (r ∷ [])) + length (keep p rs)
+  unfolding keep
+  keep-more [] = omega arith
+  keep-more (s ∷ rs) = go (p s) (keep-more rs)
+    where
+      go : (b : Bool) → length (keep p (rs ++ (r ∷ []))) ≡ length (keep p (r ∷ [])) + length (keep p rs)
+          → length {A = List ℕ} (elim b as (λ _. List (List ℕ)) [ true ↦ s ∷ keep p (rs ++ (r ∷ [])) | false ↦ keep p (rs ++ (r ∷ [])) ])
+          ≡ length (keep p (r ∷ [])) + length {A = List ℕ} (elim b as (λ _. List (List ℕ)) [ true ↦ s ∷ keep p rs | false ↦ keep p rs ])
+      go true ih = omega arith
+      go false ih = ih
+
+  pub none-more : (rs : List (List ℕ)) → noneOf p (rs ++ (r ∷ [])) ≡ (noneOf p rs && not (p r))
+  unfolding keep
+  none-more rs = ap (λ k. eqb k 0) (keep-more rs) ∙ go (p r) refl (length (keep p rs))
+    where
+      go : (b : Bool) → p r ≡ b → (k : ℕ) → eqb (length (keep p (r ∷ [])) + k) 0 ≡ (eqb k 0 && not b)
+      go true e k = rw (keep-yes p r [] e) (ne-eqb (1 + k) 0 (λ f. omega arith) ∙ sym (and-false (eqb k 0)))
+      go false e k = rw (keep-no p r [] e) (let zero : 0 + k ≡ k = omega arith in ap (λ j. eqb j 0) zero ∙ sym (and-true (eqb k 0)))
+
+-- ---- the kind
+
+-- what code that decided the kind knows of a record
+pub record Told (r : List ℕ) (house : Bool) : Type 0 where
+  pub is-house : house ≡ tellsHouse r
+  pub is-member : not house ≡ tellsMember r
+
+pub told-house : {r : List ℕ} {house : Bool} → recordKind r ≡ 72 → house ≡ true → Told r house
+told-house {r} e q = rw q (record { is-house = sym (eq-eqb (recordKind r) 72 e); is-member = sym (ne-eqb (recordKind r) 77 (λ f. omega arith)) })
+
+pub told-member : {r : List ℕ} {house : Bool} → recordKind r ≡ 77 → house ≡ false → Told r house
+told-member {r} e q = rw q (record { is-house = sym (other-kind r e); is-member = sym (eq-eqb (recordKind r) 77 e) })
 
 -- ---- the causes, in their order
 
-module _ (afterMember : Bool) (r : List ℕ) (at : ℕ) where
+module _ (before : List (List ℕ)) (r : List ℕ) where
   -- the outcome of the record alone
   abbrev pub here : Outcome Bool
-  here = tested (recordTests afterMember r) at (accepted (tellsMember r))
+  here = tested (fieldTests before r) (length before) (accepted (tellsMember r))
 
-  pub kind-unknown : kindOf r ≢ 72 → kindOf r ≢ 77 → refused 3 at ≡ here
-  unfolding recordTests
+  pub kind-unknown : recordKind r ≢ 72 → recordKind r ≢ 77 → refused 3 (length before) ≡ here
+  unfolding fieldTests
   kind-unknown h m =
-      sym (fails 3 (tellsHouse r || tellsMember r) _ at (accepted (tellsMember r))
-      (λ t. ⊎-elim (from-false (ne-eqb (kindOf r) 72 h)) (from-false (ne-eqb (kindOf r) 77 m)) (or-cases (tellsHouse r) (tellsMember r) t)))
+      sym
+      (first-fails (length before) (accepted (tellsMember r)) [] 3 _ _ none
+      (λ t. ⊎-elim (from-false (ne-eqb (recordKind r) 72 h)) (from-false (ne-eqb (recordKind r) 77 m)) (or-cases (tellsHouse r) (tellsMember r) t)))
 
-  module _ (known : (kindOf r ≡ 72) ⊎ (kindOf r ≡ 77)) where
-    -- its kind is known
-    known-kind : here ≡ tested ((4, fieldsFit r) ∷ (5, not (afterMember && tellsHouse r)) ∷ []) at (accepted (tellsMember r))
-    unfolding recordTests
-    known-kind =
-        passes 3 (tellsHouse r || tellsMember r) _ at (accepted (tellsMember r))
-        (⊎-elim (λ e. or-left (tellsHouse r) (tellsMember r) (eq→eqb (kindOf r) 72 e)) (λ e. or-right (tellsHouse r) (tellsMember r) (eq→eqb (kindOf r) 77 e)) known)
+  module _ {house : Bool} (told : Told r house) where
+    known : T (tellsHouse r || tellsMember r)
+    known = rw (← told .is-house, ← told .is-member) (one house)
+      where
+        one : (b : Bool) → T (b || not b)
+        one true = tt
+        one false = tt
 
-    pub field-out : (T (fieldsFit r) → ⊥) → refused 4 at ≡ here
-    field-out n = sym (known-kind ∙ fails 4 (fieldsFit r) _ at (accepted (tellsMember r)) n)
+    pub field-out : (T (fieldsFit r) → ⊥) → refused 4 (length before) ≡ here
+    unfolding fieldTests
+    field-out n = sym (first-fails (length before) (accepted (tellsMember r)) (_ ∷ []) 4 _ _ (also known none) n)
 
-    module _ (fits : T (fieldsFit r)) where
-      in-range : here ≡ tested ((5, not (afterMember && tellsHouse r)) ∷ []) at (accepted (tellsMember r))
-      in-range = known-kind ∙ passes 4 (fieldsFit r) _ at (accepted (tellsMember r)) fits
+    module _ (fits : T (fieldsFit r)) {after : Bool} (met : after ≡ not (noneOf tellsMember before)) where
+      order : T (not (tellsHouse r) || noneOf tellsMember before) ↔ (T house → T (noneOf tellsMember before))
+      order = rw (told .is-house) (implies-iff (tellsHouse r) (noneOf tellsMember before))
 
-      pub too-late : afterMember ≡ true → kindOf r ≡ 72 → refused 5 at ≡ here
-      too-late a h =
-          sym (in-range ∙ fails 5 (not (afterMember && tellsHouse r)) [] at (accepted (tellsMember r)) (λ t. T-not (afterMember && tellsHouse r) t (and-both afterMember (tellsHouse r) (from-true a) (eq→eqb (kindOf r) 72 h))))
+      pub too-late : T house → T after → refused 5 (length before) ≡ here
+      unfolding fieldTests
+      too-late h a =
+          sym
+          (first-fails (length before) (accepted (tellsMember r)) (_ ∷ _ ∷ []) 5 _ _ (also known (also fits none))
+          (λ t. T-not (noneOf tellsMember before) (rw met at a) (order .0 t h)))
 
-      in-order : (T (afterMember && tellsHouse r) → ⊥) → here ≡ accepted (tellsMember r)
-      unfolding tested
-      in-order n = in-range ∙ passes 5 (not (afterMember && tellsHouse r)) [] at (accepted (tellsMember r)) (not-T (afterMember && tellsHouse r) n)
-
-      pub house-read : afterMember ≡ false → kindOf r ≡ 72 → accepted false ≡ here
-      house-read a h =
-          ap (λ (b : Bool). accepted b) (sym (ne-eqb (kindOf r) 77 (λ m. omega arith)))
-          ∙ sym (in-order (λ t. from-false a (and-left afterMember (tellsHouse r) t)))
-
-      pub member-read : kindOf r ≡ 77 → accepted true ≡ here
-      member-read m =
-          ap (λ (b : Bool). accepted b) (sym (eq-eqb (kindOf r) 77 m))
-          ∙ sym (in-order (λ t. from-false (ne-eqb (kindOf r) 72 (λ h. omega arith)) (and-right afterMember (tellsHouse r) t)))
+      pub record-read : (T house → T after → ⊥) → {member : Bool} → member ≡ not house → accepted member ≡ here
+      unfolding fieldTests
+      record-read f e =
+          ap (λ b. accepted b) (e ∙ told .is-member)
+          ∙ sym (all-pass (length before) (accepted (tellsMember r)) (also known (also fits (also (order .1 before-any) none))))
+        where
+          before-any : T house → T (noneOf tellsMember before)
+          before-any h = ⊎-elim (λ t. t) (λ n. absurd (f h (rw met (not-T (noneOf tellsMember before) n)))) (passes? (noneOf tellsMember before))

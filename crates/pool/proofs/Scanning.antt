@@ -1,139 +1,144 @@
 -- The loop that tests the records of a pool one by one and counts the houses.
-use mathlib.Core.Bool.{Bool, true, false, _||_, or-false, or-true}
-use mathlib.Core.List.{List, _∷_}
+use mathlib.Core.Bool.{Bool, true, false, not, _&&_, _||_, or-false, or-true}
+use mathlib.Core.List.{List, [], _∷_, _++_}
 use mathlib.Core.Logic.{⊎-elim}
-use mathlib.Core.Path.{_≡_, sym, ap, _∙_}
+use mathlib.Core.Path.{_≡_, refl, sym, ap, ap₂, _∙_}
 use Prim.Native.Nat.{ℕ, suc, _+_, _-_, _*_, _/_, _≤_, _<_}
 use native.Mathlib.Numerals.{add-one}
 use native.Mathlib.Omega.{arith}
-use lib.ListN.{length, take, drop}
-use borrow.Author.Tests.{eqb-true, ne-eqb}
-use Rattle.pool.specs.declared.records.Entry.{Entry}
-use Rattle.pool.specs.Lists.{keep, cut}
+use lib.ListN.{length, getD, take, drop, drop-of-length-le}
+use lib.Seq.{take-suc, drop-cons, take-all, length-take-le}
+use borrow.Author.Tests.{eqb-true}
+use Rattle.pool.specs.declared.records.PoolRecord.{PoolRecord}
+use Rattle.kep.specs.Lists.{keep, cut}
 use Rattle.pool.specs.Refusals.{Outcome, accepted, refused, tested}
-use Rattle.pool.specs.Records.{recordSize, kindOf, tellsHouse, tellsMember, recordTests, recordsTested, recordsIn}
-use Rattle.pool.specs.Reading.{entryOutcome}
-use Rattle.pool.proofs.Tests.{or-cases, is-true, from-false}
-use Rattle.pool.proofs.Each.{keep-yes, keep-no}
-use Rattle.pool.proofs.Cut.{cut-from, cut-none}
+use Rattle.pool.specs.Records.{recordWidth, tellsHouse, tellsMember, noneOf, fieldTests, recordsTested, poolRecords}
+use Rattle.pool.specs.inner.Reading.{recordOutcome}
+use Rattle.kep.proofs.Tests.{or-cases, is-true, from-false}
+use Rattle.kep.proofs.Each.{keep-yes, keep-no}
+use Rattle.kep.proofs.Cut.{length-cut, getD-cut}
 use Rattle.pool.proofs.Tested.{goes-on, stops, held}
-
--- a member's record is no house's
-pub other-kind : (r : List ℕ) → kindOf r ≡ 77 → tellsHouse r ≡ false
-other-kind r e = ne-eqb (kindOf r) 72 (λ f. omega arith)
+use Rattle.pool.proofs.RecordLaws.{here, other-kind, keep-more, none-more}
 
 -- how many houses
 abbrev pub houses : List (List ℕ) → ℕ
 houses rs = length (keep tellsHouse rs)
 
+-- record i as the part of the bytes that code hands on
+pub at-record : (w n i : ℕ) (bytes : List ℕ) → i < n → take (w * i + w - w * i) (drop (w * i) bytes) ≡ getD (cut w n bytes) i []
+at-record w n i bytes h =
+    let one : w * i + w - w * i ≡ w = omega arith in
+    ap (λ k. take k (drop (w * i) bytes)) one ∙ sym (getD-cut w n i bytes h)
+
 module _ (bytes : List ℕ) where
-  -- the records from record i on
-  abbrev pub recordsFrom : ℕ → List (List ℕ)
-  recordsFrom i = cut recordSize (length bytes / recordSize - i) (drop (recordSize * i) bytes)
-
-  abbrev pub recordAt : ℕ → List ℕ
-  recordAt i = take recordSize (drop (recordSize * i) bytes)
-
-  -- the record as the part of the bytes that code hands on
-  pub at-record : (i : ℕ) → take (recordSize * i + recordSize - recordSize * i) (drop (recordSize * i) bytes) ≡ recordAt i
-  at-record i = let eight : recordSize * i + recordSize - recordSize * i ≡ recordSize = omega arith in ap (λ k. take k (drop (recordSize * i) bytes)) eight
-
   -- what the scan comes to
   abbrev pub whole : Outcome ℕ
-  whole = recordsTested false 0 (recordsIn bytes) (accepted (houses (recordsIn bytes)))
+  whole = recordsTested [] (poolRecords bytes) (accepted (houses (poolRecords bytes)))
 
   -- records 0 to i - 1 met no cause, and so many of them are houses'; the test of the rest is the test of the whole
   pub record Scanning (afterMember : Bool) (count i : ℕ) : Type 0 where
-    pub within : i ≤ length bytes / recordSize
+    pub within : i ≤ length bytes / recordWidth
     pub few : count ≤ i
-    pub counts : count + houses (recordsFrom i) ≡ houses (recordsIn bytes)
-    pub left : recordsTested afterMember i (recordsFrom i) (accepted (houses (recordsIn bytes))) ≡ whole
+    pub counts : count ≡ houses (take i (poolRecords bytes))
+    pub members : afterMember ≡ not (noneOf tellsMember (take i (poolRecords bytes)))
+    pub left : recordsTested (take i (poolRecords bytes)) (drop i (poolRecords bytes)) (accepted (houses (poolRecords bytes))) ≡ whole
 
   -- by whatever name code has the numbers
   pub scan-same : {a b : Bool} {m n i : ℕ} → m ≡ n → a ≡ b → Scanning b n i → Scanning a m i
   scan-same p q s = rw (p, q) s
 
   pub scan-start : Scanning false 0 0
-  scan-start =
-      let all : length bytes / recordSize - 0 ≡ length bytes / recordSize = omega arith in
-      record {
-        within = omega arith;
-        few = omega arith;
-        counts = ap (λ k. 0 + houses (cut recordSize k bytes)) all ∙ omega arith;
-        left = ap (λ k. recordsTested false 0 (cut recordSize k bytes) (accepted (houses (recordsIn bytes)))) all;
-      }
+  unfolding keep
+  scan-start = record { within = omega arith; few = omega arith; counts = refl; members = refl; left = refl }
 
-  pub scan-end : {afterMember : Bool} {count i : ℕ} → length bytes / recordSize ≤ i → Scanning afterMember count i → accepted count ≡ whole
-  unfolding recordsTested keep
+  pub scan-end : {afterMember : Bool} {count i : ℕ} → length bytes / recordWidth ≤ i → Scanning afterMember count i → accepted count ≡ whole
+  unfolding recordsTested
   scan-end {afterMember} {count} {i} l s =
-      let none-left : length bytes / recordSize - i ≡ 0 = omega arith in
-      let empty = cut-none recordSize (length bytes / recordSize) i (drop (recordSize * i) bytes) none-left in
-      let all : count ≡ houses (recordsIn bytes) = omega (arith, s .counts, ap houses empty) in
-      ap (λ k. accepted k) all ∙ sym (ap (λ rs. recordsTested afterMember i rs (accepted (houses (recordsIn bytes)))) empty) ∙ s .left
+      let rs = poolRecords bytes in
+      let all : length rs ≤ i = omega (arith, length-cut recordWidth (length bytes / recordWidth) bytes) in
+      ap (λ k. accepted k) (s .counts ∙ ap houses (take-all i rs all))
+      ∙ sym (ap (λ left. recordsTested (take i rs) left (accepted (houses rs))) (drop-of-length-le rs all))
+      ∙ s .left
 
-  -- the outcome of record i alone
-  abbrev pub outcomeAt : Bool → ℕ → Outcome Bool
-  outcomeAt afterMember i = tested (recordTests afterMember (recordAt i)) i (accepted (tellsMember (recordAt i)))
+  module _ {afterMember : Bool} {count i : ℕ} (h : i < length bytes / recordWidth) (s : Scanning afterMember count i) where
+    abbrev before : List (List ℕ)
+    before = take i (poolRecords bytes)
 
-  -- as code learns it
-  pub read-here : (afterMember : Bool) (i : ℕ) {e : Entry} (known : Entry) → e ≡ known
-      → let r = take (recordSize * i + recordSize - recordSize * i) (drop (recordSize * i) bytes) in
-      ((at : ℕ) → entryOutcome e at ≡ tested (recordTests afterMember r) at (accepted (tellsMember r)))
-      → entryOutcome known i ≡ outcomeAt afterMember i
-  read-here afterMember i known q f =
-      sym (ap (λ x. entryOutcome x i) q) ∙ f i ∙ ap (λ r. tested (recordTests afterMember r) i (accepted (tellsMember r))) (at-record i)
+    abbrev r : List ℕ
+    r = getD (poolRecords bytes) i []
 
-  module _ {afterMember : Bool} {count i : ℕ} (h : i < length bytes / recordSize) (s : Scanning afterMember count i) where
-    split : recordsFrom i ≡ recordAt i ∷ recordsFrom (suc i)
-    split = cut-from recordSize (length bytes / recordSize) i bytes h
+    there : i < length (poolRecords bytes)
+    there = rw (length-cut recordWidth (length bytes / recordWidth) bytes) h
 
-    first : recordsTested afterMember i (recordAt i ∷ recordsFrom (suc i)) (accepted (houses (recordsIn bytes))) ≡ whole
-    first = sym (ap (λ rs. recordsTested afterMember i rs (accepted (houses (recordsIn bytes)))) split) ∙ s .left
+    more : take (suc i) (poolRecords bytes) ≡ before ++ (r ∷ [])
+    more = take-suc (poolRecords bytes) i [] there
+
+    -- as code learns the outcome of record i
+    pub read-here : {e : PoolRecord} (known : PoolRecord) → e ≡ known
+        → ((b : List (List ℕ)) → afterMember ≡ not (noneOf tellsMember b)
+        → recordOutcome e (length b) ≡ here b (take (recordWidth * i + recordWidth - recordWidth * i) (drop (recordWidth * i) bytes)))
+        → recordOutcome known (length before) ≡ here before r
+    read-here known q f =
+        sym (ap (λ x. recordOutcome x (length before)) q) ∙ f before (s .members) ∙ ap (λ x. here before x) (at-record recordWidth (length bytes / recordWidth) i bytes h)
 
     later : Outcome ℕ
-    later = recordsTested (afterMember || tellsMember (recordAt i)) (suc i) (recordsFrom (suc i)) (accepted (houses (recordsIn bytes)))
+    later = recordsTested (before ++ (r ∷ [])) (drop (suc i) (poolRecords bytes)) (accepted (houses (poolRecords bytes)))
+
+    first : tested (fieldTests before r) (length before) later ≡ whole
+    unfolding recordsTested later
+    first =
+        sym (ap (λ left. recordsTested before left (accepted (houses (poolRecords bytes)))) (drop-cons (poolRecords bytes) i [] there))
+        ∙ s .left
 
     -- record i meets a cause
-    pub scan-stop : {n at : ℕ} → refused n at ≡ outcomeAt afterMember i → refused n at ≡ whole
-    unfolding recordsTested later
-    scan-stop e = sym (stops (tellsMember (recordAt i)) (recordTests afterMember (recordAt i)) i (sym e) later) ∙ first
+    pub scan-stop : {n : ℕ} → refused n (length before) ≡ here before r → refused n i ≡ whole
+    scan-stop {n} e =
+        ap (λ at. refused n at) (sym (length-take-le i (poolRecords bytes) (omega (arith, there))))
+        ∙ sym (stops (tellsMember r) (fieldTests before r) (length before) (sym e) later)
+        ∙ first
 
-    goes : {b : Bool} → accepted b ≡ outcomeAt afterMember i → later ≡ whole
-    unfolding recordsTested later
-    goes e = sym (goes-on (tellsMember (recordAt i)) (recordTests afterMember (recordAt i)) i (sym e) later) ∙ first
+    -- it meets none
+    module _ {b : Bool} (e : accepted b ≡ here before r) where
+      goes : later ≡ whole
+      goes = sym (goes-on (tellsMember r) (fieldTests before r) (length before) (sym e) later) ∙ first
 
-    kind : {b : Bool} → accepted b ≡ outcomeAt afterMember i → tellsMember (recordAt i) ≡ b
-    kind {b} e =
-        let same : accepted (tellsMember (recordAt i)) ≡ accepted b =
-        sym (goes-on (tellsMember (recordAt i)) (recordTests afterMember (recordAt i)) i (sym e) (accepted (tellsMember (recordAt i)))) ∙ sym e in
-        cc
+      kind : tellsMember r ≡ b
+      kind =
+          let same : accepted (tellsMember r) ≡ accepted b =
+          sym (goes-on (tellsMember r) (fieldTests before r) (length before) (sym e) (accepted (tellsMember r))) ∙ sym e in
+          cc
+
+      next : {count′ : ℕ} → count′ ≤ suc i → count′ ≡ houses (r ∷ []) + houses before → Scanning (afterMember || b) count′ (i + 1)
+      unfolding later
+      next few counts =
+          rw (add-one i)
+          (record {
+            within = h;
+            few = few;
+            counts = counts ∙ sym (ap houses more ∙ keep-more tellsHouse r before);
+            members =
+                ap₂ (λ x y. x || y) (s .members) (sym kind)
+                ∙ sym (ap (λ rs. not (noneOf tellsMember rs)) more ∙ ap not (none-more tellsMember r before) ∙ not-and (noneOf tellsMember before) (tellsMember r));
+            left = ap (λ b′. recordsTested b′ (drop (suc i) (poolRecords bytes)) (accepted (houses (poolRecords bytes)))) more ∙ goes;
+          })
+        where
+          not-and : (a c : Bool) → not (a && not c) ≡ (not a || c)
+          not-and true true = refl
+          not-and true false = refl
+          not-and false c = refl
 
     -- it is a member's
-    pub scan-member : accepted true ≡ outcomeAt afterMember i → Scanning true count (i + 1)
-    unfolding later
+    pub scan-member : accepted true ≡ here before r → Scanning true count (i + 1)
+    unfolding keep
     scan-member e =
-        rw (add-one i)
-        (let member = kind e in
-        let house : tellsHouse (recordAt i) ≡ false = other-kind (recordAt i) (eqb-true _ _ member) in
-        record {
-          within = h;
-          few = omega (arith, s .few);
-          counts = ap (λ rs. count + length rs) (sym (keep-no tellsHouse (recordAt i) (recordsFrom (suc i)) house)) ∙ sym (ap (λ rs. count + houses rs) split) ∙ s .counts;
-          left = ap (λ b. recordsTested b (suc i) (recordsFrom (suc i)) (accepted (houses (recordsIn bytes)))) (sym (ap (λ b. afterMember || b) member ∙ or-true afterMember)) ∙ goes e;
-        })
+        let house = ap length (keep-no tellsHouse r [] (other-kind r (eqb-true _ _ (kind e)))) in
+        scan-same refl (sym (or-true afterMember)) (next e (omega (arith, s .few)) (omega (arith, house, s .counts)))
 
     -- it is a house's
-    pub scan-house : accepted false ≡ outcomeAt afterMember i → Scanning afterMember (count + 1) (i + 1)
-    unfolding later recordTests
+    pub scan-house : accepted false ≡ here before r → Scanning afterMember (count + 1) (i + 1)
+    unfolding keep fieldTests
     scan-house e =
-        rw (add-one i)
-        (let member = kind e in
-        let known = held 3 (tellsHouse (recordAt i) || tellsMember (recordAt i)) _ i (tellsMember (recordAt i)) (sym e) in
-        let house : tellsHouse (recordAt i) ≡ true = is-true _ (⊎-elim (λ t. t) (λ t. absurd (from-false member t)) (or-cases (tellsHouse (recordAt i)) (tellsMember (recordAt i)) known)) in
-        let one : houses (recordAt i ∷ recordsFrom (suc i)) ≡ suc (houses (recordsFrom (suc i))) = ap length (keep-yes tellsHouse (recordAt i) (recordsFrom (suc i)) house) in
-        record {
-          within = h;
-          few = omega (arith, s .few);
-          counts = omega (arith, one, ap houses split, s .counts);
-          left = ap (λ b. recordsTested b (suc i) (recordsFrom (suc i)) (accepted (houses (recordsIn bytes)))) (sym (ap (λ b. afterMember || b) member ∙ or-false afterMember)) ∙ goes e;
-        })
+        let known = held 3 (tellsHouse r || tellsMember r) _ (length before) (tellsMember r) (sym e) in
+        let is-house = is-true _ (⊎-elim (λ t. t) (λ t. absurd (from-false (kind e) t)) (or-cases (tellsHouse r) (tellsMember r) known)) in
+        let house = ap length (keep-yes tellsHouse r [] is-house) in
+        scan-same refl (sym (or-false afterMember)) (next e (omega (arith, s .few)) (omega (arith, house, s .counts)))

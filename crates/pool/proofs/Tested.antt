@@ -8,10 +8,10 @@ use lib.Dec.{T}
 use Rattle.pool.specs.declared.refusal.Refusal.{Refusal}
 use Rattle.pool.specs.declared.refusal.Verdict.{Verdict}
 use Rattle.pool.specs.declared.refusal.Verdict.the-variants as verdict
-use Rattle.pool.specs.Lists.{Each, none, also}
+use Rattle.kep.specs.Lists.{Each, none, also}
 use Rattle.pool.specs.Refusals.{numberOf, Outcome, accepted, refused, outcomeOf, tested, andThen}
-use Rattle.pool.proofs.Tests.{from-true}
-use Rattle.pool.proofs.Each.{each-first}
+use Rattle.kep.proofs.Tests.{from-true, from-false}
+use Rattle.kep.proofs.Each.{each-first}
 
 module _ {A : Type 0} (n : ℕ) (b : Bool) (ts : List (ℕ × Bool)) (at : ℕ) (rest : Outcome A) where
   pub passes : T b → tested ((n, b) ∷ ts) at rest ≡ tested ts at rest
@@ -29,6 +29,15 @@ module _ {A : Type 0} (n : ℕ) (b : Bool) (ts : List (ℕ × Bool)) (at : ℕ) 
       go : (b : Bool) → (T b → ⊥) → tested ((n, b) ∷ ts) at rest ≡ refused n at
       go true f = absurd (f tt)
       go false f = refl
+
+-- one test alone, by what code found of it
+module _ {A : Type 0} (n at : ℕ) (a : A) {b found : Bool} (e : found ≡ b) where
+  pub alone-passes : found ≡ true → accepted a ≡ tested ((n, b) ∷ []) at (accepted a)
+  unfolding tested
+  alone-passes t = sym (passes n b [] at (accepted a) (from-true (sym e ∙ t)))
+
+  pub alone-fails : found ≡ false → refused n at ≡ tested ((n, b) ∷ []) at (accepted a)
+  alone-fails f = sym (fails n b [] at (accepted a) (from-false (sym e ∙ f)))
 
 -- accepting is not refusing
 pub not-both : {A : Type 0} {a : A} {n at : ℕ} → accepted a ≡ refused n at → ⊥

@@ -1,6 +1,6 @@
 -- A pool value that passes its test (6): its arcs, and its graph.
 use mathlib.Core.Bool.{Bool, true, false, not, _&&_, _||_}
-use mathlib.Core.List.{List, []}
+use mathlib.Core.List.{List}
 use mathlib.Core.Logic.{_↔_}
 use mathlib.Core.Path.{_≡_, sym}
 use Prim.Native.Nat.{ℕ, _-_, _*_, _%_, _^_, _≤_, _<_}
@@ -12,16 +12,14 @@ use lib.ListN.{getD}
 use lib.Pow.{ones-lt, pow-pos}
 use borrow.Author.Tests.{lt-ltb, le-ltb}
 use Rattle.pool.specs.declared.value.Pool.{Pool}
-use Rattle.pool.specs.Sets.{has, counted, Part}
-use Rattle.pool.specs.Graph.{WellFormed}
-use Rattle.pool.specs.Refusals.{accepted, refused}
-use Rattle.pool.specs.Value.{graphOf, arcAllowed, takersFit, arcsFit, poolFits, testPool}
-use Rattle.pool.proofs.Tests.{and-iff, and-iff₃, implies-iff, is-true, is-false}
-use Rattle.pool.proofs.ListLaws.{all-below}
-use Rattle.pool.proofs.SetLaws.{has-full, has-below, not-in-empty}
-use Rattle.pool.proofs.Parts.{in-rest, part-and, part-of-and}
-use Rattle.pool.proofs.Operations.{one-shl}
-use Rattle.pool.proofs.Tested.{passes, fails}
+use Rattle.kep.specs.Sets.{has, counted, Part}
+use Rattle.kep.specs.Graph.{WellFormed}
+use Rattle.pool.specs.Value.{graphOf, arcAllowed, takersFit, arcsFit, poolFits}
+use Rattle.kep.proofs.Tests.{and-iff, and-iff₃, implies-iff, is-true, is-false}
+use Rattle.kep.proofs.ListLaws.{all-below}
+use Rattle.kep.proofs.SetLaws.{has-full, has-below, not-in-empty}
+use Rattle.kep.proofs.Parts.{in-rest, part-and, part-of-and}
+use Rattle.kep.proofs.Operations.{one-shl}
 
 -- the vertices below n
 pub in-full : (n v : ℕ) → T (has (2 ^ n - 1) v) ↔ (v < n)
@@ -101,14 +99,6 @@ module _ (size altruists : ℕ) (gives : List ℕ) (l : altruists ≤ size) wher
 -- ---- the test
 
 module _ (p : Pool) where
-  pub refused-pool : (T (poolFits p) → ⊥) → refused 6 0 ≡ testPool p
-  unfolding testPool
-  refused-pool n = sym (fails 6 (poolFits p) [] 0 (accepted p) n)
-
-  pub accepted-pool : T (poolFits p) → accepted p ≡ testPool p
-  unfolding testPool
-  accepted-pool t = sym (passes 6 (poolFits p) [] 0 (accepted p) t)
-
   pub fits-iff : T (poolFits p) ↔ ((p .size ≤ 14) × (p .altruists ≤ p .size) × T (arcsFit (p .size) (p .altruists) (p .gives)))
   fits-iff =
       let (to, from) = and-iff₃ (leb (p .size) 14) (leb (p .altruists) (p .size)) (arcsFit (p .size) (p .altruists) (p .gives)) in (

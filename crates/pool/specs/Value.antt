@@ -5,9 +5,9 @@ use Prim.Native.Nat.{ℕ}
 use lib.Dec.{leb, ltb}
 use lib.ListN.{getD, replicate}
 use Rattle.pool.specs.declared.value.Pool.{Pool}
-use Rattle.pool.specs.Lists.{all, upto}
-use Rattle.pool.specs.Sets.{has}
-use Rattle.pool.specs.Graph.{Graph}
+use Rattle.kep.specs.Lists.{all, upto}
+use Rattle.kep.specs.Sets.{has}
+use Rattle.kep.specs.Graph.{Graph}
 use Rattle.pool.specs.Refusals.{Outcome, accepted, tested}
 
 -- the compatibility graph of a pool value: u has an arc to v where both are places and v is in the set that u gives to

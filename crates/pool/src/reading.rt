@@ -1,4 +1,5 @@
 // Reading pool bytes to a pool value: causes 1 to 5.
+use crate::records::PoolRecord;
 use crate::records::Scan;
 use crate::records::scan_records;
 use crate::refusal::Cause;
@@ -8,8 +9,8 @@ use crate::takers::takers;
 use crate::value::Pool;
 ghost use mathlib.Core.Path.{_≡_};
 ghost use Rattle.pool.specs.Refusals.{outcomeOf};
-ghost use Rattle.pool.specs.Records.{readPool};
-ghost use Rattle.pool.specs.Reading.{poolBeside, refusedAnswer};
+ghost use Rattle.pool.specs.Records.{readPool, poolBeside};
+ghost use Rattle.pool.specs.inner.Reading.{refusedAnswer};
 
 // The verdict, and beside it the pool that was read; the empty pool where it is refused.
 pub struct PoolAnswer {
@@ -23,11 +24,11 @@ pub fn read_pool(bytes: &[u8]) -> PoolAnswer
     ensures beside { λ r. ⌜ r .pool ≡ poolBeside (readPool (now (bytes .entry))) ⌝ }
 {
     let length = bytes.len();
-    if length % 8 != 0 {
+    if length % PoolRecord::WIDTH != 0 {
         return refused(Cause::PoolLength, 0);
     }
-    let places = length / 8;
-    if 14 < places {
+    let places = length / PoolRecord::WIDTH;
+    if PoolRecord::MOST < places {
         return refused(Cause::PoolSize, 0);
     }
     let scan = scan_records(bytes);

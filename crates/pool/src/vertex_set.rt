@@ -1,6 +1,6 @@
 // A set of vertices as one value.
 ghost use mathlib.Core.Path.{_≡_};
-ghost use Rattle.pool.specs.Sets.{lowestBelow, sizeBelow, withVertex, withoutVertex};
+ghost use Rattle.kep.specs.Sets.{lowestBelow, sizeBelow, withVertex, withoutVertex};
 
 // The sum of 2 to the power v over the vertices v of the set.
 pub struct VertexSet(pub u16);

@@ -5,7 +5,7 @@ use Prim.Native.Nat.{ℕ, suc, _+_, _≤_}
 use native.Mathlib.Omega.{arith}
 use lib.ListN.{length, take, set, length-set}
 use lib.Seq.{paste, take-paste, length-paste, take-length, take-suc-set}
-use Rattle.report.specs.Writing.{Adds}
+use Rattle.report.specs.inner.Writing.{Adds}
 
 -- a word that is copied in
 pub adds-pasted : (old new word : List ℕ) (at end : ℕ) → at + length word ≤ length old → new ≡ paste old at word (length word) → end ≡ at + length word

@@ -13,22 +13,22 @@ use borrow.Author.Tests.{eq-eqb, ne-eqb, le-leb, lt-leb}
 use Rattle.pool.specs.declared.value.Pool.{Pool}
 use Rattle.pool.specs.declared.limits.Limits.{Limits}
 use Rattle.pool.specs.Limits.{limitsFit}
-use Rattle.pool.specs.Lists.{cut, Each, none, also}
+use Rattle.kep.specs.Lists.{cut, Each, none, also, flat}
 use Rattle.pool.specs.Records.{readPool}
 use Rattle.pool.specs.Refusals.{Outcome, accepted, refused, tested}
 use Rattle.pool.specs.Value.{graphOf, poolFits}
-use Rattle.pool.proofs.Tested.{Pass, all-pass, not-both}
+use Rattle.pool.proofs.Tested.{Pass, passes, all-pass, not-both}
 use Rattle.pool.proofs.ValueLaws.{fits-size}
-use Rattle.tables.specs.Table.{memberWorth, served}
+use Rattle.kep.specs.Table.{served}
+use Rattle.tables.specs.Calls.{worthIn}
 use Rattle.plans.specs.Check.{recordsIn}
-use Rattle.plans.specs.Clearing.{clearPool, clearable, clearTold, planOf, planLeft, planWritten}
-use Rattle.plans.specs.Lists.{flat}
-use Rattle.plans.specs.Plan.{recordForm}
-use Rattle.plans.proofs.Answer.{answer-legal}
-use Rattle.plans.proofs.ChoosingCode.{form-length}
-use Rattle.plans.proofs.ClearingCode.{read-accepted}
+use Rattle.clearing.specs.Clearing.{clearTests, clearableValue, clearOutcome, planOf, planWritten, planCleared}
+use Rattle.kep.specs.Plan.{recordForm}
+use Rattle.kep.proofs.Answer.{answer-legal}
+use Rattle.kep.proofs.ExchangeFacts.{small-fits}
+use Rattle.clearing.proofs.ChoosingCode.{form-length}
 use Rattle.report.specs.Text.{servedLine, refusedLine, recordLines, planText, outcomeText, limitsIn, printed, wholeText, Told, whole, tooShort, toldOf, leftOf}
-use Rattle.report.specs.Writing.{Adds, clearedText}
+use Rattle.report.specs.inner.Writing.{Adds, clearedText}
 
 -- ---- a pool file and limits of any length
 
@@ -51,16 +51,16 @@ module _ (pool limits : List ℕ) where
 abbrev pub fitted : Pool → Limits → Outcome Pool
 fitted p l = tested ((7, limitsFit l) ∷ []) 0 (accepted p)
 
-pub only-limits : (bytes : List ℕ) (p : Pool) (l : Limits) (exchanges best plan : List ℕ) → accepted p ≡ readPool bytes → T (poolFits p)
-    → length exchanges ≡ 16384 → length best ≡ 16384 → length plan ≡ 224 → clearable bytes l exchanges best plan ≡ fitted p l
-unfolding clearPool tested
-only-limits bytes p l exchanges best plan read fits x b w =
+pub only-limits : (p : Pool) (l : Limits) (exchanges best plan : List ℕ) → T (poolFits p) → length exchanges ≡ 16384 → length best ≡ 16384 → length plan ≡ 224
+    → clearableValue p l exchanges best plan ≡ fitted p l
+unfolding clearableValue tested
+only-limits p l exchanges best plan fits x b w =
     let small = fits-size p fits in
     let entries : 2 ^ p .size ≤ 2 ^ 14 = pow-mono small in
     let passed : Each Pass ((8, leb (2 ^ p .size) (length exchanges)) ∷ (9, leb (2 ^ p .size) (length best)) ∷ (10, leb (16 * p .size) (length plan)) ∷ []) =
     also (le→leb (2 ^ p .size) (length exchanges) (omega arith))
     (also (le→leb (2 ^ p .size) (length best) (omega arith)) (also (le→leb (16 * p .size) (length plan) (omega arith)) none)) in
-    sym (read-accepted bytes l exchanges best plan read) ∙ ap (tested ((7, limitsFit l) ∷ []) 0) (all-pass 0 (accepted p) passed)
+    passes 6 (poolFits p) (drop 1 (clearTests p l exchanges best plan)) 0 (accepted p) fits ∙ ap (tested ((7, limitsFit l) ∷ []) 0) (all-pass 0 (accepted p) passed)
 
 fit-or-not : (p : Pool) (l : Limits) → (fitted p l ≡ accepted p) ⊎ (fitted p l ≡ refused 7 0)
 unfolding tested
@@ -86,23 +86,23 @@ pub record PlanTold (p : Pool) (l : Limits) (count records : ℕ) (plan₀ plan 
   pub text-is : planText p l ≡ clearedText p l
 
 module _ (p : Pool) (l : Limits) {o : Outcome Pool} (only : o ≡ fitted p l) where
-  pub told-plan : {count records : ℕ} (plan₀ : List ℕ) {plan : List ℕ} → accepted (count, records) ≡ clearTold l o → plan ≡ planLeft l o plan₀
+  pub told-plan : {count records : ℕ} (plan₀ : List ℕ) {plan : List ℕ} → accepted (count, records) ≡ clearOutcome l o → plan ≡ planCleared l o plan₀
       → PlanTold p l count records plan₀ plan
   unfolding clearedText outcomeText
-  told-plan {count} {records} plan₀ {plan} told left = ⊎-elim fit (λ bad. absurd (not-both (told ∙ ap (clearTold l) (only ∙ bad)))) (fit-or-not p l)
+  told-plan {count} {records} plan₀ {plan} told left = ⊎-elim fit (λ bad. absurd (not-both (told ∙ ap (clearOutcome l) (only ∙ bad)))) (fit-or-not p l)
     where
       fit : fitted p l ≡ accepted p → PlanTold p l count records plan₀ plan
       fit ok =
-          let (c, r) = same-pair (told ∙ ap (clearTold l) (only ∙ ok)) in
-          record { count-is = c; records-are = r; plan-is = left ∙ ap (λ q. planLeft l q plan₀) (only ∙ ok); text-is = sym (ap (λ q. outcomeText q l) ok) }
+          let (c, r) = same-pair (told ∙ ap (clearOutcome l) (only ∙ ok)) in
+          record { count-is = c; records-are = r; plan-is = left ∙ ap (λ q. planCleared l q plan₀) (only ∙ ok); text-is = sym (ap (λ q. outcomeText q l) ok) }
 
   -- or that the limits are refused
-  pub told-refused : {n at : ℕ} → refused n at ≡ clearTold l o → (at ≡ 0) × (refusedLine n at ≡ clearedText p l)
+  pub told-refused : {n at : ℕ} → refused n at ≡ clearOutcome l o → (at ≡ 0) × (refusedLine n at ≡ clearedText p l)
   unfolding clearedText outcomeText
-  told-refused {n} {at} told = ⊎-elim (λ ok. absurd (not-both (sym (told ∙ ap (clearTold l) (only ∙ ok))))) unfit (fit-or-not p l)
+  told-refused {n} {at} told = ⊎-elim (λ ok. absurd (not-both (sym (told ∙ ap (clearOutcome l) (only ∙ ok))))) unfit (fit-or-not p l)
     where
       unfit : fitted p l ≡ refused 7 0 → (at ≡ 0) × (refusedLine n at ≡ outcomeText (fitted p l) l)
-      unfit bad = let (a, b) = same-refusal (told ∙ ap (clearTold l) (only ∙ bad)) in (b, ap₂ refusedLine a b ∙ sym (ap (λ q. outcomeText q l) bad))
+      unfit bad = let (a, b) = same-refusal (told ∙ ap (clearOutcome l) (only ∙ bad)) in (b, ap₂ refusedLine a b ∙ sym (ap (λ q. outcomeText q l) bad))
 
 -- ---- the records of the plan stand at the front of the buffer
 
@@ -117,7 +117,7 @@ cut-front (suc k) xs ys h =
 module _ (p : Pool) (l : Limits) (fits : T (poolFits p)) {count records : ℕ} {plan₀ plan : List ℕ} (told : PlanTold p l count records plan₀ plan) where
   form-long : length (recordForm (graphOf p) (planOf p l)) ≡ 16 * records
   form-long =
-      form-length (graphOf p) (l .cycle) (l .chain) (fits-size p fits) (planOf p l) (answer-legal (graphOf p) (l .cycle) (l .chain) (memberWorth (graphOf p)))
+      form-length (graphOf p) (l .cycle) (l .chain) (small-fits (fits-size p fits)) (planOf p l) (answer-legal (graphOf p) (l .cycle) (l .chain) (worthIn p))
       ∙ ap (λ k. 16 * k) (sym (told .records-are))
 
   pub records-few : length plan ≡ 224 → records ≤ 14

@@ -3,4 +3,3 @@ pub mod Decimal
 pub mod LineLaws
 pub mod Spots
 pub mod Composing
-pub mod Rows

@@ -7,8 +7,8 @@ use native.Mathlib.Omega.{arith}
 use lib.ListN.{length, drop, getD, drop-of-length-le}
 use lib.Seq.{drop-cons}
 use borrow.Author.Tests.{eq-eqb, ne-eqb}
-use Rattle.pool.specs.Lists.{cut}
-use Rattle.pool.proofs.Cut.{cut-from, cut-none}
+use Rattle.kep.specs.Lists.{cut}
+use Rattle.kep.proofs.Cut.{cut-from, cut-none}
 use Rattle.plans.specs.Check.{listed}
 use Rattle.plans.specs.Record.{recordAt}
 use Rattle.report.specs.Text.{kindWord, placeText, placesText, recordLine, recordLines}

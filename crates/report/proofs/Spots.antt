@@ -1,14 +1,14 @@
 -- The spot of a refused pool is below 15, since more than 14 records are refused before any record is read.
-use mathlib.Core.Bool.{Bool, true, false, _||_}
-use mathlib.Core.List.{List, [], _∷_}
+use mathlib.Core.Bool.{Bool, true, false}
+use mathlib.Core.List.{List, [], _∷_, _++_}
 use mathlib.Core.Path.{_≡_, sym}
-use Prim.Native.Nat.{ℕ, suc, _+_, _/_, _%_, _≤_}
+use Prim.Native.Nat.{ℕ, _+_, _/_, _%_, _≤_}
 use native.Mathlib.Omega.{arith}
 use lib.Dec.{T, eqb, leb, leb→le}
-use lib.ListN.{length}
+use lib.ListN.{length, length-append}
 use Rattle.pool.specs.Refusals.{Outcome, accepted, refused, tested}
-use Rattle.pool.specs.Records.{recordSize, tellsMember, recordTests, recordsTested, recordsIn, poolOf, readPool}
-use Rattle.pool.proofs.Cut.{length-cut}
+use Rattle.pool.specs.Records.{recordWidth, mostRecords, fieldTests, recordsTested, poolRecords, poolOf, readPool}
+use Rattle.kep.proofs.Cut.{length-cut}
 use Rattle.pool.proofs.Tested.{not-both}
 
 -- what is refused at a spot beyond the bound is never an outcome
@@ -27,13 +27,13 @@ tested-spots {A} most (t ∷ ts) at o h s = go (t .1) (tested-spots most ts at o
     go true ih = ih
     go false ih = λ n i e. omega (arith, same-spot e)
 
-records-spots : {A : Type 0} (most : ℕ) (after : Bool) (i : ℕ) (rs : List (List ℕ)) (o : Outcome A) → i + length rs ≤ most → Spots most o
-    → Spots most (recordsTested after i rs o)
+records-spots : {A : Type 0} (most : ℕ) (before rs : List (List ℕ)) (o : Outcome A) → length before + length rs ≤ most → Spots most o
+    → Spots most (recordsTested before rs o)
 unfolding recordsTested
-records-spots most after i [] o h s = s
-records-spots most after i (r ∷ rs) o h s =
-    tested-spots most (recordTests after r) i (recordsTested (after || tellsMember r) (suc i) rs o) (omega arith)
-    (records-spots most (after || tellsMember r) (suc i) rs o (omega arith) s)
+records-spots most before [] o h s = s
+records-spots most before (r ∷ rs) o h s =
+    tested-spots most (fieldTests before r) (length before) (recordsTested (before ++ (r ∷ [])) rs o) (omega arith)
+    (records-spots most (before ++ (r ∷ [])) rs o (simp length-append (omega arith)) s)
 
 -- the first two tests: the second bounds the number of records
 two-spots : {A : Type 0} (a b : Bool) (o : Outcome A) → (T b → Spots 14 o) → Spots 14 (tested ((1, a) ∷ (2, b) ∷ []) 0 o)
@@ -45,10 +45,10 @@ two-spots false b o s = λ n i e. omega (arith, same-spot e)
 pub read-spot : (bytes : List ℕ) {n at : ℕ} → refused n at ≡ readPool bytes → at ≤ 14
 unfolding readPool
 read-spot bytes {n} {at} e =
-    two-spots (eqb (length bytes % recordSize) 0) (leb (length bytes / recordSize) 14)
-    (recordsTested false 0 (recordsIn bytes) (accepted (poolOf (recordsIn bytes))))
-    (λ t. records-spots 14 false 0 (recordsIn bytes) (accepted (poolOf (recordsIn bytes))) (few t) (λ n at f. absurd (not-both f)))
+    two-spots (eqb (length bytes % recordWidth) 0) (leb (length bytes / recordWidth) mostRecords)
+    (recordsTested [] (poolRecords bytes) (accepted (poolOf (poolRecords bytes))))
+    (λ t. records-spots mostRecords [] (poolRecords bytes) (accepted (poolOf (poolRecords bytes))) (few t) (λ n at f. absurd (not-both f)))
     n at (sym e)
   where
-    few : T (leb (length bytes / recordSize) 14) → 0 + length (recordsIn bytes) ≤ 14
-    few t = omega (arith, leb→le (length bytes / recordSize) 14 t, length-cut recordSize (length bytes / recordSize) bytes)
+    few : T (leb (length bytes / recordWidth) mostRecords) → 0 + length (poolRecords bytes) ≤ 14
+    few t = omega (arith, leb→le (length bytes / recordWidth) mostRecords t, length-cut recordWidth (length bytes / recordWidth) bytes)

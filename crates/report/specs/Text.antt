@@ -10,11 +10,11 @@ use Rattle.pool.specs.Limits.{limitsOf, limitsFit}
 use Rattle.pool.specs.Records.{readPool}
 use Rattle.pool.specs.Refusals.{Outcome, accepted, refused, tested, andThen}
 use Rattle.pool.specs.Value.{graphOf}
-use Rattle.tables.specs.Table.{served}
+use Rattle.kep.specs.Table.{served}
 use Rattle.plans.specs.Check.{verticesOf, recordsIn}
-use Rattle.plans.specs.Clearing.{planOf}
-use Rattle.plans.specs.Lists.{flat}
-use Rattle.plans.specs.Plan.{recordForm}
+use Rattle.clearing.specs.Clearing.{planOf}
+use Rattle.kep.specs.Lists.{flat}
+use Rattle.kep.specs.Plan.{recordForm}
 use Rattle.report.specs.declared.reporting.Reported.{Reported}
 use Rattle.report.specs.declared.reporting.Reported.the-variants as reported
 

@@ -5,11 +5,11 @@ use pool::Refusal;
 ghost use mathlib.Core.Path.{_≡_};
 ghost use Prim.Native.Nat.{_+_, _*_, _≤_, _<_};
 ghost use lib.ListN.{length};
-ghost use Rattle.pool.specs.Lists.{cut};
+ghost use Rattle.kep.specs.Lists.{cut};
 ghost use Rattle.pool.specs.Refusals.{numberOf};
 ghost use Rattle.plans.specs.Check.{listed};
 ghost use Rattle.report.specs.Text.{kindWord, placeText, placesText, recordLine, recordLines, servedLine, refusedLine};
-ghost use Rattle.report.specs.Writing.{Adds};
+ghost use Rattle.report.specs.inner.Writing.{Adds};
 
 // `served S of M`.
 pub(crate) fn put_served(text: &mut [u8], at: usize, served: u8, members: u8) -> usize

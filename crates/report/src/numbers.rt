@@ -4,7 +4,7 @@ ghost use mathlib.Core.List.{[], _∷_};
 ghost use Prim.Native.Nat.{_+_, _≤_, _<_};
 ghost use lib.ListN.{length};
 ghost use Rattle.report.specs.Text.{decimal};
-ghost use Rattle.report.specs.Writing.{Adds};
+ghost use Rattle.report.specs.inner.Writing.{Adds};
 
 pub(crate) fn put_number(text: &mut [u8], at: usize, n: usize) -> usize
     requires { ⌜ n < 1000 ⌝ }

@@ -3,8 +3,8 @@ use crate::lines::put_records;
 use crate::lines::put_refused;
 use crate::lines::put_served;
 use crate::writing::put;
-use plans::Cleared;
-use plans::clear;
+use clearing::Cleared;
+use clearing::clear_value;
 use pool::Cause;
 use pool::Limits;
 use pool::Pool;
@@ -13,11 +13,11 @@ use pool::Verdict;
 use pool::read_pool;
 ghost use mathlib.Core.Path.{_≡_};
 ghost use Prim.Native.Nat.{_≤_};
+ghost use lib.Dec.{T};
 ghost use lib.ListN.{length};
-ghost use Rattle.pool.specs.Records.{readPool};
-ghost use Rattle.pool.specs.Refusals.{accepted};
+ghost use Rattle.pool.specs.Value.{poolFits};
 ghost use Rattle.report.specs.Text.{reportedOf, textOf, textOutcome, textLeft, wholeText};
-ghost use Rattle.report.specs.Writing.{Adds, clearedText, wholeOutcome, wholeLeft};
+ghost use Rattle.report.specs.inner.Writing.{Adds, clearedText, wholeOutcome, wholeLeft};
 
 pub enum Reported {
     // How long the text is that stands at the front of the buffer.
@@ -78,19 +78,19 @@ fn compose(pool: &[u8], limits: &[u8], text: &mut [u8]) -> usize
         cycle: limits[0],
         chain: limits[1],
     };
-    compose_cleared(pool, value, both, text)
+    compose_cleared(value, both, text)
 }
 
 // The text of a pool that was read, under limits of two bytes.
-fn compose_cleared(pool: &[u8], value: Pool, limits: Limits, text: &mut [u8]) -> usize
-    requires { ⌜ accepted value ≡ readPool (now pool) ⌝ }
+fn compose_cleared(value: Pool, limits: Limits, text: &mut [u8]) -> usize
+    requires { ⌜ T (poolFits value) ⌝ }
     requires { ⌜ length (now text) ≡ 1024 ⌝ }
     ensures { λ r. ⌜ Adds 1024 (now (text .entry)) (now (text .exit)) 0 r (clearedText value limits) ⌝ }
 {
     let mut exchanges = [0u16; 16384];
     let mut best = [0u8; 16384];
     let mut plan = [0u8; 224];
-    let cleared = clear(pool, limits, &mut exchanges, &mut best, &mut plan);
+    let cleared = clear_value(value, limits, &mut exchanges, &mut best, &mut plan);
     match cleared {
         Cleared::Plan { served, records } => {
             let end = put_served(text, 0, served, value.size - value.altruists);

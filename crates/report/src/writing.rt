@@ -3,7 +3,7 @@ ghost use mathlib.Core.Path.{_≡_};
 ghost use Prim.Native.Nat.{_+_, _≤_};
 ghost use lib.ListN.{length};
 ghost use lib.Seq.{paste};
-ghost use Rattle.report.specs.Writing.{Adds};
+ghost use Rattle.report.specs.inner.Writing.{Adds};
 
 // Writes the word from `at` on, and tells where it ends.
 pub(crate) fn put(text: &mut [u8], at: usize, word: &[u8]) -> usize

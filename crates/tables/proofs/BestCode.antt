@@ -15,17 +15,17 @@ use mir.Syntax.{w8, w64}
 use mir.Val.{Fits}
 use borrow.Author.Tests.{eq-eqb, ne-eqb}
 use Rattle.pool.specs.declared.value.Pool.{Pool}
-use Rattle.pool.specs.Sets.{has, worthOf, counted}
-use Rattle.pool.specs.Graph.{isMember}
+use Rattle.kep.specs.Sets.{has, worthOf, counted}
+use Rattle.kep.specs.Graph.{isMember}
 use Rattle.pool.specs.Value.{graphOf}
-use Rattle.tables.specs.Table.{best}
+use Rattle.kep.specs.Table.{best}
 use Rattle.tables.specs.Calls.{marked, membersIn}
-use Rattle.tables.specs.BestFilling.{heldIn, offer}
-use Rattle.pool.proofs.Tests.{and-iff}
-use Rattle.pool.proofs.Worth.{worth-le, worth-and}
-use Rattle.pool.proofs.Operations.{where-set}
+use Rattle.kep.specs.inner.BestFilling.{heldIn, offer}
+use Rattle.kep.proofs.Tests.{and-iff}
+use Rattle.kep.proofs.Worth.{worth-le, worth-and}
+use Rattle.kep.proofs.Operations.{where-set}
 use Rattle.pool.proofs.ValueLaws.{in-between}
-use Rattle.tables.proofs.BestTable.{best-worth}
+use Rattle.kep.proofs.BestTable.{best-worth}
 
 -- ---- members
 

@@ -1,6 +1,5 @@
--- What both passes over the exchange table rest on: the givers as code finds them, and the number of the sets.
-use mathlib.Core.List.{List}
-use mathlib.Core.Path.{_≡_, ap, _∙_}
+-- What both filling calls rest on: the givers as code finds them, and the number of the sets.
+use mathlib.Core.Path.{_≡_}
 use Prim.Native.Nat.{ℕ, _*_, _%_, _^_, _≤_, _<_}
 use native.Mathlib.Decide.{decLt}
 use native.Mathlib.Omega.{arith}
@@ -8,14 +7,12 @@ use lib.Dec.{T}
 use lib.ListN.{length, getD, List·getD-eq-default}
 use lib.Pow.{pow-mono}
 use Rattle.pool.specs.declared.value.Pool.{Pool}
-use Rattle.pool.specs.Sets.{has, setWhere}
+use Rattle.kep.specs.Sets.{has, setWhere}
 use Rattle.pool.specs.Value.{graphOf, poolFits}
-use Rattle.tables.specs.Filling.{givers}
-use Rattle.tables.specs.ByLowest.{Prepared}
-use Rattle.pool.proofs.SetLaws.{not-in-empty}
-use Rattle.pool.proofs.Operations.{one-shl}
-use Rattle.pool.proofs.SetLoops.{where-reach}
-use Rattle.pool.proofs.Tables.{length-tabulate, getD-whole}
+use Rattle.kep.specs.Graph.{givers}
+use Rattle.kep.proofs.SetLaws.{not-in-empty}
+use Rattle.kep.proofs.Operations.{one-shl}
+use Rattle.kep.proofs.SetLoops.{where-reach}
 use Rattle.pool.proofs.ValueLaws.{arc-iff, fits-size}
 
 -- a pool value has room for 14 places, so the givers of v are among the first 14 vertices
@@ -30,13 +27,6 @@ givers-found p v room =
           | yes l ↦ l
           | no n ↦ absurd (not-in-empty v (rw (List·getD-eq-default (p .gives) 0 {n = u} (omega arith)) at arc))
         ]
-
-module _ {p : Pool} {gs : List ℕ} (known : Prepared p gs) where
-  pub known-length : length gs ≡ 14
-  known-length = ap length (known .given) ∙ length-tabulate (givers (graphOf p)) 14
-
-  pub known-givers : (v : ℕ) → v < p .size → getD gs v 0 ≡ givers (graphOf p) v
-  known-givers v h = rw (known .given) (getD-whole (givers (graphOf p)) 14 v (omega (arith, fits-size p (known .fits))))
 
 -- there are as many entries as sets, and a set has 14 bits
 module _ (p : Pool) (fits : T (poolFits p)) where

@@ -6,14 +6,14 @@ use lib.Dec.{eqb, leb}
 use lib.ListN.{length, drop, getD}
 use Rattle.pool.specs.declared.value.Pool.{Pool}
 use Rattle.pool.specs.declared.limits.Limits.{Limits}
-use Rattle.pool.specs.Lists.{tabulate}
-use Rattle.pool.specs.Sets.{worthOf}
+use Rattle.kep.specs.Lists.{tabulate}
+use Rattle.kep.specs.Sets.{worthOf}
 use Rattle.pool.specs.Refusals.{numberOf, Outcome, accepted, refused, tested, leftBy}
 use Rattle.pool.specs.Limits.{limitsFit}
 use Rattle.pool.specs.Value.{graphOf, poolFits}
 use Rattle.tables.specs.declared.filled.Filled.{Filled}
 use Rattle.tables.specs.declared.filled.Filled.the-variants as filled
-use Rattle.tables.specs.Table.{entry, memberWorth, best}
+use Rattle.kep.specs.Table.{entry, memberWorth, best}
 
 abbrev pub filledOutcome : Filled → Outcome ℕ
 filledOutcome (filled.Entries k) = accepted k
@@ -25,10 +25,12 @@ writtenTo f k table = tabulate f k ++ drop k table
 
 -- ---- the exchange table: 6, 7 and 8, and then every set's entry
 
+abbrev pub exchangesTests : Pool → Limits → List ℕ → List (ℕ × Bool)
+exchangesTests p l table = (6, poolFits p) ∷ (7, limitsFit l) ∷ (8, leb (2 ^ p .size) (length table)) ∷ []
+
 unfoldable pub exchangesOutcome : Pool → Limits → List ℕ → Outcome ℕ
 unfolding tested
-exchangesOutcome p l table =
-    tested ((6, poolFits p) ∷ (7, limitsFit l) ∷ (8, leb (2 ^ p .size) (length table)) ∷ []) 0 (accepted (2 ^ p .size))
+exchangesOutcome p l table = tested (exchangesTests p l table) 0 (accepted (2 ^ p .size))
 
 unfoldable pub exchangesLeft : Pool → Limits → List ℕ → List ℕ
 unfolding exchangesOutcome tabulate
@@ -41,14 +43,20 @@ exchangesLeft p l table =
 abbrev pub marked : List ℕ → ℕ → Bool
 marked exchanges s = not (eqb (getD exchanges s 0) 0)
 
+-- what a vertex of the pool counts: a member 1, an altruist nothing
+abbrev pub worthIn : Pool → ℕ → ℕ
+worthIn p v = memberWorth (graphOf p) v
+
 -- the members in a set
 abbrev pub membersIn : Pool → ℕ → ℕ
-membersIn p s = worthOf (memberWorth (graphOf p)) (p .size) s
+membersIn p s = worthOf (worthIn p) (p .size) s
+
+abbrev pub bestTests : Pool → List ℕ → List ℕ → List (ℕ × Bool)
+bestTests p exchanges table = (6, poolFits p) ∷ (8, leb (2 ^ p .size) (length exchanges)) ∷ (9, leb (2 ^ p .size) (length table)) ∷ []
 
 unfoldable pub bestOutcome : Pool → List ℕ → List ℕ → Outcome ℕ
 unfolding tested
-bestOutcome p exchanges table =
-    tested ((6, poolFits p) ∷ (8, leb (2 ^ p .size) (length exchanges)) ∷ (9, leb (2 ^ p .size) (length table)) ∷ []) 0 (accepted (2 ^ p .size))
+bestOutcome p exchanges table = tested (bestTests p exchanges table) 0 (accepted (2 ^ p .size))
 
 unfoldable pub bestLeft : Pool → List ℕ → List ℕ → List ℕ
 unfolding bestOutcome tabulate

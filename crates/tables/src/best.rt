@@ -7,9 +7,9 @@ use pool::Verdict;
 ghost use mathlib.Core.Path.{_≡_};
 ghost use Prim.Native.Nat.{_≤_, _<_};
 ghost use lib.ListN.{length};
-ghost use Rattle.tables.specs.Table.{best};
+ghost use Rattle.kep.specs.Table.{best};
 ghost use Rattle.tables.specs.Calls.{filledOutcome, writtenTo, marked, bestOutcome, bestLeft};
-ghost use Rattle.tables.specs.BestFilling.{heldIn, offer, nextBest};
+ghost use Rattle.kep.specs.inner.BestFilling.{heldIn, offer, nextBest};
 
 // Fills the best table from the marks of a lent exchange table, whatever that holds: 6, 8, 9, or the entries written.
 pub fn fill_best(pool: Pool, exchanges: &[u16], table: &mut [u8]) -> Filled

@@ -6,10 +6,10 @@ ghost use mathlib.Core.Bool.{_&&_};
 ghost use Prim.Native.Nat.{_<_};
 ghost use lib.Dec.{ltb};
 ghost use lib.ListN.{length, getD};
-ghost use Rattle.pool.specs.Lists.{tabulate};
-ghost use Rattle.pool.specs.Sets.{has};
+ghost use Rattle.kep.specs.Lists.{tabulate};
+ghost use Rattle.kep.specs.Sets.{has};
 ghost use Rattle.pool.specs.Value.{graphOf};
-ghost use Rattle.tables.specs.Filling.{givers as giversOf};
+ghost use Rattle.kep.specs.Graph.{givers as giversOf};
 
 // Does u give to v, in a pool value of this size? (The arcs of `graphOf`.)
 fn arc(size: u8, gives: &[u16], u: u8, v: u8) -> bool

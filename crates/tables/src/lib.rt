@@ -1,14 +1,9 @@
-// Layer two of document 01: set tables. The exchange table marks the sets that a cycle or chain uses; the best table holds the
-// most members that disjoint marked sets can hold.
-mod abreast;
+// Layer two of document 01: set tables, but for filling the exchange table. The best table holds the most members that disjoint
+// marked sets can hold; the givers of every vertex, and what a filling call answers.
 mod best;
-mod by_lowest;
-mod exchanges;
 mod filled;
 mod givers;
-mod path_ends;
 
 pub use best::fill_best;
-pub use exchanges::fill_exchanges;
 pub use filled::Filled;
 pub use givers::all_givers;

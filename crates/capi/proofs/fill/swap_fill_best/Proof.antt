@@ -7,8 +7,8 @@ use Rattle.capi.proofs.fill.swap_fill_best.Tie as tie
 fill-best-requires : tie.Need-fill-best-requires
 fill-best-requires c κs = search needs
 
-answer-of-requires : tie.Need-answer-of-requires
-answer-of-requires c κs = search needs
+answer-filled-requires : tie.Need-answer-filled-requires
+answer-filled-requires c κs = search needs
 
 same-length : tie.Need-same-length
 same-length c = search needs
@@ -16,8 +16,8 @@ same-length c = search needs
 returns : tie.Need-returns
 returns c =
     let filled = c .before .before .before .fill-best .ensures in
-    (c .answer-of .ensures ∙ ap countAnswer (filled .0), filled .1)
+    (c .answer-filled .ensures ∙ ap countAnswer (filled .0), filled .1)
 
 pub swap-fill-best-spec : {M : Type 1} → statement M
 swap-fill-best-spec =
-    tie.close (tie.spec fill-best-requires answer-of-requires same-length returns)
+    tie.close (tie.spec fill-best-requires answer-filled-requires same-length returns)

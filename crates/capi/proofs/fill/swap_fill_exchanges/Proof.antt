@@ -7,8 +7,8 @@ use Rattle.capi.proofs.fill.swap_fill_exchanges.Tie as tie
 fill-exchanges-requires : tie.Need-fill-exchanges-requires
 fill-exchanges-requires c κs = search needs
 
-answer-of-requires : tie.Need-answer-of-requires
-answer-of-requires c κs = search needs
+answer-filled-requires : tie.Need-answer-filled-requires
+answer-filled-requires c κs = search needs
 
 same-length : tie.Need-same-length
 same-length c = search needs
@@ -16,8 +16,8 @@ same-length c = search needs
 returns : tie.Need-returns
 returns c =
     let filled = c .before .before .before .fill-exchanges .ensures in
-    (c .answer-of .ensures ∙ ap countAnswer (filled .0), filled .1)
+    (c .answer-filled .ensures ∙ ap countAnswer (filled .0), filled .1)
 
 pub swap-fill-exchanges-spec : {M : Type 1} → statement M
 swap-fill-exchanges-spec =
-    tie.close (tie.spec fill-exchanges-requires answer-of-requires same-length returns)
+    tie.close (tie.spec fill-exchanges-requires answer-filled-requires same-length returns)

@@ -7,7 +7,7 @@ use native.Mathlib.Omega.{arith}
 use denote.Ref.{now}
 use lib.ListN.{length, drop}
 use Rattle.pool.specs.Value.{graphOf}
-use Rattle.tables.specs.Exchange.{walk, headOf}
+use Rattle.kep.specs.Exchange.{walk, headOf}
 use Rattle.plans.proofs.Scans.{each-here}
 use Rattle.plans.proofs.CheckArcs.{joined-broken, joined-chain, joined-cycle}
 use Rattle.plans.proofs.arcs.all_joined.Statement.{statement}

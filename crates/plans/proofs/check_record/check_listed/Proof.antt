@@ -4,13 +4,13 @@ use Prim.Native.Nat.{_<_}
 use native.Mathlib.Omega.{arith}
 use denote.Ref.{now}
 use lib.Dec.{T}
-use Rattle.pool.specs.Lists.{Each}
+use Rattle.kep.specs.Lists.{Each}
 use Rattle.pool.specs.Value.{graphOf}
-use Rattle.tables.specs.Exchange.{headOf}
-use Rattle.tables.specs.Table.{served}
+use Rattle.kep.specs.Exchange.{headOf}
+use Rattle.kep.specs.Table.{served}
 use Rattle.plans.specs.Check.{rising, joined, withinLimits}
-use Rattle.plans.specs.CheckSteps.{freshIn}
-use Rattle.pool.proofs.Each.{each-map}
+use Rattle.plans.specs.inner.CheckSteps.{freshIn}
+use Rattle.kep.proofs.Each.{each-map}
 use Rattle.plans.proofs.CheckArcs.{head-here}
 use Rattle.plans.proofs.CheckCode.{is-so, is-not, stop-13, stop-14, stop-15, stop-16, stop-17, passes-all}
 use Rattle.plans.proofs.check_record.check_listed.Statement.{statement}

@@ -3,7 +3,7 @@ use mathlib.Core.Path.{_≡_, sym, _∙_}
 use denote.Ref.{now}
 use lib.ListN.{getD}
 use Rattle.pool.specs.Value.{graphOf}
-use Rattle.tables.specs.Table.{served}
+use Rattle.kep.specs.Table.{served}
 use Rattle.plans.specs.Check.{verticesOf}
 use Rattle.plans.proofs.CheckCode.{ends-count, ends-chain, ends-cycle, ends-other}
 use Rattle.plans.proofs.check_record.ends_right.Statement.{statement}

@@ -3,7 +3,7 @@ use Prim.Native.Nat.{_<_, _-_}
 use native.Mathlib.Omega.{arith}
 use denote.Ref.{now}
 use lib.ListN.{length, getD}
-use Rattle.plans.specs.CheckSteps.{freshIn}
+use Rattle.plans.specs.inner.CheckSteps.{freshIn}
 use Rattle.plans.proofs.Scans.{Meeting, meeting-start, has-bit, each-here, fresh-stop, fresh-next, fresh-end}
 use Rattle.plans.proofs.vertices.all_new.Statement.{statement}
 use Rattle.plans.proofs.vertices.all_new.Tie as tie

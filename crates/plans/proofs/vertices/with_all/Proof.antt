@@ -3,7 +3,7 @@ use Prim.Native.Nat.{_-_}
 use native.Mathlib.Omega.{arith}
 use denote.Ref.{now}
 use lib.ListN.{length}
-use Rattle.plans.specs.CheckSteps.{added}
+use Rattle.plans.specs.inner.CheckSteps.{added}
 use Rattle.plans.proofs.Scans.{Meeting, meeting-start, each-here, added-next, added-end}
 use Rattle.plans.proofs.vertices.with_all.Statement.{statement}
 use Rattle.plans.proofs.vertices.with_all.Tie as tie

@@ -1,8 +1,8 @@
 use denote.Ref.{now}
 use mathlib.Core.Path.{refl, sym, ap, _∙_}
 use Rattle.pool.specs.Refusals.{accepted}
-use Rattle.pool.specs.Reading.{scanOutcome}
-use Rattle.pool.proofs.ReadLaws.{read-uneven, read-many, read-stop, read-done, answer-refused, answer-accepted, counted-houses, pool-read}
+use Rattle.pool.specs.inner.Reading.{scanOutcome}
+use Rattle.pool.proofs.ReadLaws.{read-uneven, read-many, read-by, answer-refused, answer-accepted, records-accepted, pool-read}
 use borrow.Author.Needs.{needs}
 use Rattle.pool.proofs.reading.read_pool.Statement.{statement}
 use Rattle.pool.proofs.reading.read_pool.Tie as tie
@@ -48,7 +48,7 @@ returns-3 c =
     let bytes = now (e .before .before .before .args .bytes) in
     let done = sym (ap scanOutcome (c .before .before .scan .given .1)) ∙ m .before .scan-records .ensures in
     answer-accepted bytes _
-    (ap (λ p. accepted p) (pool-read bytes refl (counted-houses bytes done) (c .takers .ensures)) ∙ sym (read-done bytes (e .before .if1 .left) (e .if2 .left) done))
+    (ap (λ p. accepted p) (pool-read bytes refl (records-accepted _ _ (sym done)) (c .takers .ensures)) ∙ sym (read-by bytes (e .before .if1 .left) (e .if2 .left) done))
 
 returns-4 : tie.Need-returns-4
 returns-4 c =
@@ -56,7 +56,7 @@ returns-4 c =
     let e = m .before .before in
     let bytes = now (e .before .before .before .args .bytes) in
     let stopped = sym (ap scanOutcome (c .before .before .scan2 .given .1)) ∙ m .before .scan-records .ensures in
-    answer-refused bytes _ _ (c .refused3 .ensures) (sym (read-stop bytes (e .before .if1 .left) (e .if2 .left) stopped))
+    answer-refused bytes _ _ (c .refused3 .ensures) (sym (read-by bytes (e .before .if1 .left) (e .if2 .left) stopped))
 
 pub read-pool-spec : {M : Type 1} → statement M
 read-pool-spec =

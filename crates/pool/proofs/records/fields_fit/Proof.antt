@@ -1,6 +1,4 @@
-use denote.Ref.{now}
 use Rattle.pool.specs.Records.{fieldsFit}
-use Rattle.pool.proofs.RecordLaws.{member-fields}
 use borrow.Author.Tests.{eq-eqb, ne-eqb, le-leb, lt-leb}
 use borrow.Author.Needs.{needs}
 use Rattle.pool.proofs.records.fields_fit.Statement.{statement}
@@ -23,29 +21,33 @@ returns-2 c = simp (le-leb _ _ (c .before .before .if1 .left), lt-leb _ _ (c .if
 shared-slice-read-least : tie.Need-shared-slice-read-least
 shared-slice-read-least c = search needs
 
-shared-slice-read-if3 : tie.Need-shared-slice-read-if3
-shared-slice-read-if3 c = search needs
-
 returns-3 : tie.Need-returns-3
 unfolding fieldsFit
-returns-3 c =
-    let b = c .before .before .before .before in
-    simp (le-leb _ _ (b .before .before .if1 .left), le-leb _ _ (b .if2 .left), eq-eqb _ _ (c .before .if3 .taken), ne-eqb _ _ (c .if4 .taken))
+returns-3 c = simp (le-leb _ _ (c .before .before .before .before .if1 .left), le-leb _ _ (c .before .before .if2 .left), lt-leb _ _ (c .if3 .taken))
 
-taken-requires : tie.Need-taken-requires
-taken-requires c κs = search needs
+shared-slice-read-kind : tie.Need-shared-slice-read-kind
+shared-slice-read-kind c = search needs
 
 returns-4 : tie.Need-returns-4
 unfolding fieldsFit
 returns-4 c =
-    let b = c .before .before .before .before .before in
-    simp (le-leb _ _ (b .before .before .if1 .left), le-leb _ _ (b .if2 .left), eq-eqb _ _ (c .before .before .if3 .taken), eq-eqb _ _ (c .before .if4 .left), c .taken .ensures)
+    let e = c .before .before .before in
+    simp (le-leb _ _ (e .before .before .before .before .if1 .left), le-leb _ _ (e .before .before .if2 .left), le-leb _ _ (e .if3 .left), eq-eqb _ _ (c .before .match .keys1), ne-eqb _ _ (c .if4 .taken))
+
+taken-requires : tie.Need-taken-requires
+taken-requires c κs = search needs
 
 returns-5 : tie.Need-returns-5
 unfolding fieldsFit
 returns-5 c =
-    let b = c .before .before .before in
-    member-fields (now (b .before .before .before .before .before .args .bytes)) (b .before .before .if1 .left) (b .if2 .left) (c .if3 .left)
+    let e = c .before .before .before .before in
+    simp (le-leb _ _ (e .before .before .before .before .if1 .left), le-leb _ _ (e .before .before .if2 .left), le-leb _ _ (e .if3 .left), eq-eqb _ _ (c .before .before .match .keys1), eq-eqb _ _ (c .before .if4 .left), c .taken .ensures)
+
+returns-6 : tie.Need-returns-6
+unfolding fieldsFit
+returns-6 c =
+    let e = c .before .before in
+    simp (le-leb _ _ (e .before .before .before .before .if1 .left), le-leb _ _ (e .before .before .if2 .left), le-leb _ _ (e .if3 .left), ne-eqb _ _ (c .match .rest .1))
 
 pub fields-fit-spec : {M : Type 1} → statement M
 fields-fit-spec =
@@ -56,8 +58,9 @@ fields-fit-spec =
     shared-slice-read-if2
     returns-2
     shared-slice-read-least
-    shared-slice-read-if3
     returns-3
-    taken-requires
+    shared-slice-read-kind
     returns-4
-    returns-5)
+    taken-requires
+    returns-5
+    returns-6)

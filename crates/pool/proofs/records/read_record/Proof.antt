@@ -1,9 +1,12 @@
 use borrow.Author.Tests.{not-true, not-false}
 use denote.Ref.{now}
-use mathlib.Core.Logic.{inl, inr}
-use mathlib.Core.Path.{sym, _∙_}
-use Rattle.pool.proofs.Tests.{from-true, from-false}
-use Rattle.pool.proofs.RecordLaws.{kind-unknown, field-out, too-late, house-read, member-read}
+use mathlib.Core.Logic.{⊎-elim}
+use mathlib.Core.Path.{sym, ap, _∙_}
+use mathlib.Core.Bool.{not}
+use lib.Dec.{T}
+use Rattle.kep.proofs.Tests.{from-true, from-false}
+use Rattle.pool.specs.Records.{fieldsFit}
+use Rattle.pool.proofs.RecordLaws.{Told, told-house, told-member, kind-unknown, field-out, too-late, record-read}
 use borrow.Author.Needs.{needs}
 use Rattle.pool.proofs.records.read_record.Statement.{statement}
 use Rattle.pool.proofs.records.read_record.Tie as tie
@@ -11,55 +14,50 @@ use Rattle.pool.proofs.records.read_record.Tie as tie
 shared-slice-read-kind : tie.Need-shared-slice-read-kind
 shared-slice-read-kind c = search needs
 
+returns : tie.Need-returns
+returns c before met = kind-unknown before (now (c .before .before .before .args .bytes)) (c .match .rest .0 .1) (c .match .rest .1)
+
 fields-fit-requires : tie.Need-fields-fit-requires
 fields-fit-requires c κs = search needs
 
-returns : tie.Need-returns
-returns c at =
-    let s = c .before .before .before .before .before in
-    field-out (s .args .after-member) (now (s .args .bytes)) at (inl (c .before .before .match .keys1)) (from-false (sym (c .before .fields-fit .ensures) ∙ not-true _ (c .if1 .taken)))
+-- the kind that the match found
+told : (c : tie.At-match-came) → Told (now (c .before .before .before .args .bytes)) (c .match .house)
+told c = ⊎-elim (λ w. told-house (w .0 .keys1) (w .1)) (λ w. told-member (w .0 .keys2) (w .1)) (c .match .came)
 
 returns-2 : tie.Need-returns-2
-returns-2 c at =
-    let s = c .before .before .before .before .before .before in
-    let kind = c .before .before .before .match .keys1 in
-    too-late (s .args .after-member) (now (s .args .bytes)) at (inl kind) (from-true (sym (c .before .before .fields-fit .ensures) ∙ not-false _ (c .before .if1 .left))) (c .if2 .taken) kind
+returns-2 c before met =
+    field-out before _ (told (c .before .before)) (from-false (sym (c .before .fields-fit .ensures) ∙ not-true _ (c .if1 .taken)))
 
-fields-fit-requires-2 : tie.Need-fields-fit-requires-2
-fields-fit-requires-2 c κs = search needs
+fits : (c : tie.Else1) → T (fieldsFit (now (c .before .before .before .before .before .args .bytes)))
+fits c = from-true (sym (c .before .fields-fit .ensures) ∙ not-false _ (c .if1 .left))
 
 returns-3 : tie.Need-returns-3
-returns-3 c at =
-    let s = c .before .before .before .before .before in
-    field-out (s .args .after-member) (now (s .args .bytes)) at (inr (c .before .before .match .keys2)) (from-false (sym (c .before .fields-fit2 .ensures) ∙ not-true _ (c .if3 .taken)))
+returns-3 c before met =
+    let e = c .before .before in
+    too-late before _ (told (e .before .before)) (fits e) met (from-true (c .before .if2 .taken)) (from-true (c .if3 .taken))
+
+-- no house after a member
+in-order : (c : tie.Joined2) → T (c .before .before .before .match .house) → T (c .before .before .before .before .before .before .args .after-member) → ⊥
+in-order c h a = ⊎-elim (λ w. from-false (w .1 .left) a) (λ w. from-false (w .left) h) (c .if2 .came)
 
 returns-4 : tie.Need-returns-4
-returns-4 c at =
-    let s = c .before .before .before .before .before .before in
-    let kind = c .before .before .before .match .keys1 in
-    house-read (s .args .after-member) (now (s .args .bytes)) at (inl kind) (from-true (sym (c .before .before .fields-fit .ensures) ∙ not-false _ (c .before .if1 .left))) (c .if2 .left) kind
+returns-4 c before met =
+    let e = c .before .before in
+    record-read before _ (told (e .before .before)) (fits e) met (in-order (c .before)) (sym (ap not (c .if4 .taken)))
 
 returns-5 : tie.Need-returns-5
-returns-5 c at =
-    let s = c .before .before .before .before .before in
-    let kind = c .before .before .match .keys2 in
-    member-read (s .args .after-member) (now (s .args .bytes)) at (inr kind) (from-true (sym (c .before .fields-fit2 .ensures) ∙ not-false _ (c .if3 .left))) kind
-
-returns-6 : tie.Need-returns-6
-returns-6 c at =
-    let s = c .before .before .before in
-    kind-unknown (s .args .after-member) (now (s .args .bytes)) at (c .match .rest .0 .1) (c .match .rest .1)
+returns-5 c before met =
+    let e = c .before .before in
+    record-read before _ (told (e .before .before)) (fits e) met (in-order (c .before)) (sym (ap not (c .if4 .left)))
 
 pub read-record-spec : {M : Type 1} → statement M
 read-record-spec =
     tie.close
     (tie.spec
     shared-slice-read-kind
-    fields-fit-requires
     returns
+    fields-fit-requires
     returns-2
-    fields-fit-requires-2
     returns-3
     returns-4
-    returns-5
-    returns-6)
+    returns-5)

@@ -3,6 +3,7 @@ use mathlib.Core.Logic.{⊎-elim}
 use Prim.Native.Nat.{_-_, _/_}
 use native.Mathlib.Omega.{arith}
 use lib.ListN.{length}
+use Rattle.pool.specs.Records.{recordWidth}
 use Rattle.pool.proofs.Scanning.{Scanning, scan-start, scan-same, scan-house, scan-member, scan-stop, scan-end, read-here}
 use Rattle.pool.proofs.records.scan_records.Statement.{statement}
 use Rattle.pool.proofs.records.scan_records.Tie as tie
@@ -11,7 +12,7 @@ abbrev Inv-loop : tie.InvT-loop
 Inv-loop bytes places houses₀ after-member₀ i₀ houses after-member i = Scanning bytes after-member houses i
 
 abbrev μ-loop : tie.MeasureT-loop
-μ-loop bytes places houses₀ after-member₀ i₀ houses after-member i = length bytes / 8 - i
+μ-loop bytes places houses₀ after-member₀ i₀ houses after-member i = length bytes / recordWidth - i
 
 loop-holds : tie.Need-loop-holds Inv-loop μ-loop
 loop-holds c = scan-start _
@@ -43,14 +44,14 @@ add-houses c = search needs
 enum-told-2 : tie.Need-enum-told-2 Inv-loop μ-loop
 enum-told-2 c = search needs
 
-enum-known-entry : tie.Need-enum-known-entry Inv-loop μ-loop
-enum-known-entry c = search needs
+enum-known-record : tie.Need-enum-known-record Inv-loop μ-loop
+enum-known-record c = search needs
 
 returns : tie.Need-returns Inv-loop μ-loop
 returns c =
     let l = c .before .before .before .before .before .before in
-    let i = l .loop .i in
-    scan-stop _ (c .before .before .before .before .before .loop-test .taken) (l .loop .inv) (read-here _ (l .loop .after-member) i _ (c .before .entry .given .1) (c .before .before .before .read-record .ensures))
+    let h = c .before .before .before .before .before .loop-test .taken in
+    scan-stop _ h (l .loop .inv) (read-here _ h (l .loop .inv) _ (c .before .record .given .1) (c .before .before .before .read-record .ensures))
 
 add-i : tie.Need-add-i Inv-loop μ-loop
 add-i c = search needs
@@ -63,7 +64,7 @@ loop-again c =
     let l = c .before .before .before .before in
     let h = c .before .before .before .loop-test .taken in
     let read = c .before .read-record .ensures in
-    let here = read-here _ (l .loop .after-member) (l .loop .i) in
+    let here = read-here _ h (l .loop .inv) in
     ⊎-elim
     (λ w. scan-same _ (w .2) (w .3) (scan-house _ h (l .loop .inv) (here _ (w .1 .given .1) read)))
     (λ w. scan-same _ (w .2) (w .3) (scan-member _ h (l .loop .inv) (here _ (w .1 .given .1) read)))
@@ -88,7 +89,7 @@ scan-records-spec =
     enum-told
     add-houses
     enum-told-2
-    enum-known-entry
+    enum-known-record
     returns
     add-i
     loop-less

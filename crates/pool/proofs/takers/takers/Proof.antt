@@ -5,18 +5,18 @@ use mathlib.Core.Path.{_≡_, refl, ap, _∙_}
 use Prim.Native.Nat.{_≤_, _-_, _/_}
 use native.Mathlib.Omega.{arith}
 use lib.ListN.{length, drop, replicate}
-use Rattle.pool.specs.Lists.{tabulate}
-use Rattle.pool.specs.Records.{recordsIn, takersOf}
-use Rattle.pool.proofs.Tables.{tabulate-store}
+use Rattle.kep.specs.Lists.{tabulate}
+use Rattle.pool.specs.Records.{recordWidth, mostRecords, poolRecords, takersOf}
+use Rattle.kep.proofs.Tables.{tabulate-store}
 use Rattle.pool.proofs.Arcs.{replicate-behind}
 use Rattle.pool.proofs.takers.takers.Statement.{statement}
 use Rattle.pool.proofs.takers.takers.Tie as tie
 
 abbrev Inv-loop : tie.InvT-loop
-Inv-loop bytes places gives₀ u₀ gives u = (u ≤ length bytes / 8) × (gives ≡ tabulate (takersOf (recordsIn bytes)) u ++ drop u gives₀)
+Inv-loop bytes places gives₀ u₀ gives u = (u ≤ length bytes / recordWidth) × (gives ≡ tabulate (takersOf (poolRecords bytes)) u ++ drop u gives₀)
 
 abbrev μ-loop : tie.MeasureT-loop
-μ-loop bytes places gives₀ u₀ gives u = length bytes / 8 - u
+μ-loop bytes places gives₀ u₀ gives u = length bytes / recordWidth - u
 
 loop-holds : tie.Need-loop-holds Inv-loop μ-loop
 unfolding tabulate
@@ -46,11 +46,11 @@ returns : tie.Need-returns Inv-loop μ-loop
 returns c =
     let l = c .before in
     let bytes = now (l .before .before .args .bytes) in
-    let f = takersOf (recordsIn bytes) in
-    let done : l .loop .u ≡ length bytes / 8 = omega arith in
+    let f = takersOf (poolRecords bytes) in
+    let done : l .loop .u ≡ length bytes / recordWidth = omega arith in
     l .loop .inv .1
-    ∙ ap (λ k. tabulate f k ++ drop k (replicate 14 0)) done
-    ∙ ap (λ r. tabulate f (length bytes / 8) ++ r) (replicate-behind (length bytes / 8) 14 (l .before .before .pre))
+    ∙ ap (λ k. tabulate f k ++ drop k (replicate mostRecords 0)) done
+    ∙ ap (λ r. tabulate f (length bytes / recordWidth) ++ r) (replicate-behind (length bytes / recordWidth) mostRecords (l .before .before .pre))
 
 pub takers-spec : {M : Type 1} → statement M
 takers-spec =

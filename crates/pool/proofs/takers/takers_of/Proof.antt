@@ -6,16 +6,17 @@ use Prim.Native.Nat.{_≤_, _-_, _/_}
 use native.Mathlib.Omega.{arith}
 use lib.ListN.{length}
 use Rattle.pool.specs.declared.vertex_set.VertexSet.{VertexSet}
-use Rattle.pool.specs.Sets.{setWhere}
+use Rattle.kep.specs.Sets.{setWhere}
+use Rattle.pool.specs.Records.{recordWidth}
 use Rattle.pool.proofs.Arcs.{takes, takers-add, takers-skip, takers-done}
 use Rattle.pool.proofs.takers.takers_of.Statement.{statement}
 use Rattle.pool.proofs.takers.takers_of.Tie as tie
 
 abbrev Inv-loop : tie.InvT-loop
-Inv-loop bytes u places giver set₀ v₀ set v = (v ≤ length bytes / 8) × (set .0 ≡ setWhere v (takes bytes u))
+Inv-loop bytes u places giver set₀ v₀ set v = (v ≤ length bytes / recordWidth) × (set .0 ≡ setWhere v (takes bytes u))
 
 abbrev μ-loop : tie.MeasureT-loop
-μ-loop bytes u places giver set₀ v₀ set v = length bytes / 8 - v
+μ-loop bytes u places giver set₀ v₀ set v = length bytes / recordWidth - v
 
 mul-giver : tie.Need-mul-giver Inv-loop μ-loop
 mul-giver c = search needs

@@ -9,7 +9,7 @@ use lib.Dec.{T}
 use lib.ListN.{getD}
 use lib.Pow.{pow-mono}
 use Rattle.pool.specs.Value.{takersFit}
-use Rattle.pool.proofs.Operations.{one-shl}
+use Rattle.kep.proofs.Operations.{one-shl}
 use Rattle.pool.proofs.ValueLaws.{takersAllowed, allowed-place, allowed-none, takers-pass, takers-fail, arcs-pass, arcs-fail}
 use Rattle.pool.proofs.value.arcs_fit.Statement.{statement}
 use Rattle.pool.proofs.value.arcs_fit.Tie as tie

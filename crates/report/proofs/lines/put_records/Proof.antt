@@ -3,7 +3,7 @@ use mathlib.Core.Path.{ap, _∙_}
 use Prim.Native.Nat.{_-_, _*_, _≤_}
 use native.Mathlib.Omega.{arith}
 use lib.ListN.{length}
-use Rattle.pool.specs.Lists.{cut}
+use Rattle.kep.specs.Lists.{cut}
 use Rattle.plans.proofs.RecordLaws.{part-record, record-whole}
 use Rattle.report.specs.Text.{recordLine, recordLines}
 use Rattle.report.proofs.Adding.{Going, going-start, going-on, going-end, said}

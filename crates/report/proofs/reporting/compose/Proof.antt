@@ -1,10 +1,11 @@
 use denote.Ref.{now}
-use mathlib.Core.Path.{_≡_}
+use mathlib.Core.Path.{_≡_, sym}
 use native.Mathlib.Omega.{arith}
 use borrow.Author.Needs.{needs}
 use Rattle.pool.specs.Records.{readPool}
 use Rattle.pool.specs.Refusals.{accepted}
 use Rattle.pool.proofs.Tested.{outcome-accepted, outcome-refused}
+use Rattle.pool.proofs.ReadPool.{read-fits}
 use Rattle.report.proofs.Adding.{roomier, said}
 use Rattle.report.proofs.Spots.{read-spot}
 use Rattle.report.proofs.Composing.{pool-refused, limits-refused, limits-two}
@@ -61,7 +62,7 @@ shared-slice-read-t20 : tie.Need-shared-slice-read-t20
 shared-slice-read-t20 c = search needs
 
 compose-cleared-requires : tie.Need-compose-cleared-requires
-compose-cleared-requires c κs = let t = c .before .before .before .before .before in (read t, omega (arith, t .before .before .before .before .before .before .pre))
+compose-cleared-requires c κs = let t = c .before .before .before .before .before in (read-fits (now (t .before .before .before .before .before .before .args .pool)) (sym (read t)), omega (arith, t .before .before .before .before .before .before .pre))
 
 same-length-3 : tie.Need-same-length-3
 same-length-3 c = search needs

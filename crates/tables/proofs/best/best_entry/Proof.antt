@@ -1,10 +1,10 @@
 use mathlib.Core.Logic.{⊎-elim}
 use native.Mathlib.Omega.{arith}
 use mir.Facts.{fits-8-64}
-use Rattle.pool.proofs.Parts.{part-le}
-use Rattle.pool.proofs.Down.{step-below}
-use Rattle.tables.specs.BestFilling.{looked, nextBest}
-use Rattle.tables.proofs.BestFilling.{Trying, trying-start, trying-next, trying-done}
+use Rattle.kep.proofs.Parts.{part-le}
+use Rattle.kep.proofs.Down.{step-below}
+use Rattle.kep.specs.inner.BestFilling.{looked, nextBest}
+use Rattle.kep.proofs.BestFilling.{Trying, trying-start, trying-next, trying-done}
 use Rattle.tables.proofs.BestCode.{sum-fits}
 use Rattle.tables.proofs.best.best_entry.Statement.{statement}
 use Rattle.tables.proofs.best.best_entry.Tie as tie

@@ -1,15 +1,16 @@
 use borrow.Author.Needs.{needs}
 use mathlib.Core.Path.{_≡_}
-use Prim.Native.Nat.{_*_, _%_, _^_, _≤_}
+use Prim.Native.Nat.{_*_, _%_, _^_}
 use native.Mathlib.Omega.{arith}
 use lib.Dec.{T}
 use lib.Pow.{pow-mono}
 use Rattle.pool.specs.declared.value.Pool.{Pool}
 use Rattle.pool.specs.Value.{poolFits}
-use Rattle.pool.proofs.Operations.{one-shl}
+use Rattle.kep.proofs.Operations.{one-shl}
 use Rattle.pool.proofs.Tested.{outcome-accepted, outcome-refused}
 use Rattle.pool.proofs.Accepted.{pool-fits}
 use Rattle.pool.proofs.ValueLaws.{fits-size, fits-altruists}
+use Rattle.tables.proofs.Preparing.{entries-are, entries-few}
 use Rattle.tables.proofs.BestCall.{pool-refused, exchanges-short, table-short, filled}
 use Rattle.tables.proofs.best.fill_best.Statement.{statement}
 use Rattle.tables.proofs.best.fill_best.Tie as tie
@@ -26,7 +27,7 @@ returns c = pool-refused _ _ _ (outcome-refused _ (c .before .verdict .given .1)
 enum-told : tie.Need-enum-told
 enum-told c = search needs
 
--- past its test the pool fits, and the two shifts give powers of 2
+-- past its test the pool fits, and the shift by the altruists gives a power of 2
 module _ (c : tie.After-enum-told) where
   pool : Pool
   pool = c .before .before .before .before .before .args .pool
@@ -34,9 +35,6 @@ module _ (c : tie.After-enum-told) where
   fits : T (poolFits pool)
   unfolding pool
   fits = pool-fits (outcome-accepted (c .enum-told .given .1) (c .before .before .test .ensures))
-
-  entries-is : 1 * 2 ^ pool .size % 2 ^ 64 ≡ 2 ^ pool .size
-  entries-is = one-shl 64 (pool .size) (omega (arith, fits-size pool fits))
 
   altruists-is : 1 * 2 ^ pool .altruists % 2 ^ 64 ≡ 2 ^ pool .altruists
   altruists-is = one-shl 64 (pool .altruists) (omega (arith, fits-size pool fits, fits-altruists pool fits))
@@ -57,22 +55,21 @@ shl-members c = omega (arith, fits-size (pool c) (fits c), fits-altruists (pool 
 
 sub-members : tie.Need-sub-members
 unfolding pool
-sub-members c = omega (arith, entries-is c, altruists-is c, pow-mono (fits-altruists (pool c) (fits c)))
+sub-members c = omega (arith, entries-are (pool c) (fits c), altruists-is c, pow-mono (fits-altruists (pool c) (fits c)))
 
 returns-2 : tie.Need-returns-2
 unfolding pool
-returns-2 c = exchanges-short (pool (c .before)) _ _ (fits (c .before)) (omega (arith, entries-is (c .before)))
+returns-2 c = exchanges-short (pool (c .before)) _ _ (fits (c .before)) (omega (arith, entries-are (pool (c .before)) (fits (c .before))))
 
 returns-3 : tie.Need-returns-3
 unfolding pool
-returns-3 c = let t = c .before .before in table-short (pool t) _ _ (fits t) (omega (arith, entries-is t)) (omega (arith, entries-is t))
+returns-3 c = let t = c .before .before in table-short (pool t) _ _ (fits t) (omega (arith, entries-are (pool t) (fits t))) (omega (arith, entries-are (pool t) (fits t)))
 
 fill-entries-requires : tie.Need-fill-entries-requires
 unfolding pool
 fill-entries-requires c κs =
     let t = c .before .before .before in
-    let top : 2 ^ pool t .size ≤ 2 ^ 14 = pow-mono (fits-size (pool t) (fits t)) in
-    (omega (arith, entries-is t), (omega arith, omega arith))
+    (omega (arith, entries-are (pool t) (fits t), entries-few (pool t) (fits t)), (omega arith, omega arith))
 
 same-length : tie.Need-same-length
 same-length c = search needs
@@ -81,7 +78,7 @@ returns-4 : tie.Need-returns-4
 unfolding pool
 returns-4 c =
     let t = c .before .before .before .before .before .before in
-    let e = entries-is t in
+    let e = entries-are (pool t) (fits t) in
     filled (pool t) _ _ (fits t) (omega arith) (omega arith) _ e (omega (arith, altruists-is t)) (c .before .before .fill-entries .ensures)
 
 pub fill-best-spec : {M : Type 1} → statement M

@@ -5,12 +5,12 @@ use Prim.Native.Nat.{ℕ, _-_, _≤_}
 use native.Mathlib.Omega.{arith}
 use denote.Ref.{now}
 use lib.ListN.{length}
-use Rattle.pool.specs.Lists.{tabulate}
-use Rattle.pool.proofs.Tables.{tabulate-more}
-use Rattle.tables.specs.Table.{best}
+use Rattle.kep.specs.Lists.{tabulate}
+use Rattle.kep.proofs.Tables.{tabulate-more}
+use Rattle.kep.specs.Table.{best}
 use Rattle.tables.specs.Calls.{writtenTo, marked}
-use Rattle.tables.specs.BestFilling.{heldIn}
-use Rattle.tables.proofs.BestFilling.{next-best}
+use Rattle.kep.specs.inner.BestFilling.{heldIn}
+use Rattle.kep.proofs.BestFilling.{next-best}
 use Rattle.tables.proofs.BestCode.{best-held}
 use Rattle.tables.proofs.best.fill_entries.Statement.{statement}
 use Rattle.tables.proofs.best.fill_entries.Tie as tie

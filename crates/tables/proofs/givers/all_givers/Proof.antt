@@ -4,11 +4,11 @@ use mathlib.Core.Path.{_≡_, _∙_}
 use Prim.Native.Nat.{_≤_, _-_}
 use native.Mathlib.Omega.{arith}
 use lib.ListN.{length}
-use Rattle.pool.specs.Lists.{tabulate}
+use Rattle.kep.specs.Lists.{tabulate}
 use Rattle.pool.specs.Value.{graphOf}
-use Rattle.tables.specs.Filling.{givers}
+use Rattle.kep.specs.Graph.{givers}
 use Rattle.tables.specs.Calls.{writtenTo}
-use Rattle.pool.proofs.Tables.{tabulate-more}
+use Rattle.kep.proofs.Tables.{tabulate-more}
 use Rattle.tables.proofs.givers.all_givers.Statement.{statement}
 use Rattle.tables.proofs.givers.all_givers.Tie as tie
 

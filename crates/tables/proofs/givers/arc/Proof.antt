@@ -3,8 +3,8 @@ use native.Mathlib.Omega.{arith}
 use borrow.Author.Tests.{lt-ltb, le-ltb}
 use denote.Ref.{now}
 use lib.ListN.{getD}
-use Rattle.pool.proofs.Operations.{one-shl}
-use Rattle.pool.proofs.SetLoops.{bit-flag}
+use Rattle.kep.proofs.Operations.{one-shl}
+use Rattle.kep.proofs.SetLoops.{bit-flag}
 use Rattle.tables.proofs.givers.arc.Statement.{statement}
 use Rattle.tables.proofs.givers.arc.Tie as tie
 

@@ -7,9 +7,9 @@ use Prim.Native.Nat.{ℕ, _≤_, _-_}
 use native.Mathlib.Omega.{arith}
 use lib.Dec.{ltb}
 use lib.ListN.{getD, length}
-use Rattle.pool.specs.Sets.{has, setWhere}
+use Rattle.kep.specs.Sets.{has, setWhere}
 use Rattle.pool.specs.declared.vertex_set.VertexSet.{VertexSet}
-use Rattle.pool.proofs.SetLoops.{made-with, made-without}
+use Rattle.kep.proofs.SetLoops.{made-with, made-without}
 use Rattle.tables.proofs.Preparing.{givers-found}
 use Rattle.tables.proofs.givers.givers_of.Statement.{statement}
 use Rattle.tables.proofs.givers.givers_of.Tie as tie

@@ -1,7 +1,7 @@
 use mathlib.Core.Path.{sym}
 use native.Mathlib.Omega.{arith}
 use lib.Count.{trailing-le}
-use Rattle.pool.proofs.SetLaws.{lowest-trailing}
+use Rattle.kep.proofs.SetLaws.{lowest-trailing}
 use Rattle.pool.proofs.vertex_set.VertexSet.lowest.Statement.{statement}
 use Rattle.pool.proofs.vertex_set.VertexSet.lowest.Tie as tie
 

@@ -1,7 +1,7 @@
 use mathlib.Core.Path.{sym}
 use native.Mathlib.Omega.{arith}
 use lib.Count.{ones-le}
-use Rattle.pool.proofs.Operations.{size-ones}
+use Rattle.kep.proofs.Operations.{size-ones}
 use Rattle.pool.proofs.vertex_set.VertexSet.size.Statement.{statement}
 use Rattle.pool.proofs.vertex_set.VertexSet.size.Tie as tie
 

@@ -1,7 +1,7 @@
 use borrow.Author.Needs.{needs}
 use mathlib.Core.Path.{sym}
 use native.Mathlib.Omega.{arith}
-use Rattle.pool.proofs.Operations.{one-shl, or-holds, without-or, without-none}
+use Rattle.kep.proofs.Operations.{one-shl, or-holds, without-or, without-none}
 use Rattle.pool.proofs.vertex_set.VertexSet.without.Statement.{statement}
 use Rattle.pool.proofs.vertex_set.VertexSet.without.Tie as tie
 

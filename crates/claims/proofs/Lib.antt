@@ -1,0 +1,4 @@
+pub mod Plans
+pub mod Printed
+pub mod Rows
+pub mod Tables

@@ -1,0 +1,107 @@
+-- The rows of document 01's table, computed from the definitions: one theorem.
+use mathlib.Core.Bool.{true, false}
+use mathlib.Core.List.{List, [], _∷_, _++_}
+use mathlib.Core.Path.{_≡_, refl}
+use Prim.Native.Nat.{ℕ}
+use Rattle.pool.specs.declared.value.Pool.{Pool}
+use Rattle.kep.specs.Lists.{all, elem, distinct, keep, upto, total, tabulate, cut, flat, sublists, before}
+use Rattle.kep.specs.Sets.{setOf, has, setWhere, worthOf}
+use Rattle.pool.specs.Refusals.{accepted, tested}
+use Rattle.pool.specs.Limits.{limitsOf}
+use Rattle.pool.specs.Value.{graphOf, emptyPool}
+use Rattle.pool.specs.Records.{fieldsFit, fieldTests, recordsTested, recordGives, takersOf, poolOf, readPool}
+use Rattle.kep.specs.Arrangements.{concatMap, remove, arrangements}
+use Rattle.kep.specs.Exchange.{walk, lastOf, isCycle, isChain, isExchange, turnedBy, turned, headOf}
+use Rattle.kep.specs.Table.{lowestFirst, exchanges, endsAt, some, entry, marks, memberWorth, served, markedParts, greatestOf, most, best}
+use Rattle.kep.specs.Plan.{insert, inOrder, kindOf, recordOf, recordsOf, recordForm, plans, better, pick, answer}
+use Rattle.clearing.specs.Clearing.{planOf}
+
+-- ---- the pools
+
+unfoldable pub poolA : List ℕ
+poolA =
+    (72 ∷ 0 ∷ 50 ∷ 0 ∷ 0 ∷ 0 ∷ 0 ∷ 0 ∷ [])
+    ++ (77 ∷ 1 ∷ 50 ∷ 40 ∷ 5 ∷ 0 ∷ 0 ∷ 0 ∷ [])
+    ++ (77 ∷ 2 ∷ 50 ∷ 40 ∷ 2 ∷ 0 ∷ 0 ∷ 0 ∷ [])
+    ++ (77 ∷ 3 ∷ 50 ∷ 40 ∷ 20 ∷ 0 ∷ 0 ∷ 0 ∷ [])
+    ++ (77 ∷ 4 ∷ 50 ∷ 40 ∷ 8 ∷ 0 ∷ 0 ∷ 0 ∷ [])
+    ++ (77 ∷ 5 ∷ 50 ∷ 40 ∷ 16 ∷ 0 ∷ 0 ∷ 0 ∷ [])
+
+-- arcs 0→1, 1→2, 2→1, 2→3, 3→4, 4→3, 4→5
+unfoldable pub valueA : Pool
+valueA = record { size = 6; altruists = 1; gives = 2 ∷ 4 ∷ 10 ∷ 16 ∷ 40 ∷ 0 ∷ 0 ∷ 0 ∷ 0 ∷ 0 ∷ 0 ∷ 0 ∷ 0 ∷ 0 ∷ [] }
+
+unfoldable pub poolB : List ℕ
+poolB =
+    (77 ∷ 0 ∷ 50 ∷ 40 ∷ 12 ∷ 0 ∷ 0 ∷ 0 ∷ [])
+    ++ (77 ∷ 1 ∷ 50 ∷ 40 ∷ 5 ∷ 0 ∷ 0 ∷ 0 ∷ [])
+    ++ (77 ∷ 2 ∷ 50 ∷ 40 ∷ 2 ∷ 0 ∷ 0 ∷ 0 ∷ [])
+    ++ (77 ∷ 3 ∷ 50 ∷ 40 ∷ 1 ∷ 0 ∷ 0 ∷ 0 ∷ [])
+
+-- arcs 0→1, 1→2, 2→0, 0→3, 3→0, 2→1
+unfoldable pub valueB : Pool
+valueB = record { size = 4; altruists = 0; gives = 10 ∷ 4 ∷ 3 ∷ 1 ∷ 0 ∷ 0 ∷ 0 ∷ 0 ∷ 0 ∷ 0 ∷ 0 ∷ 0 ∷ 0 ∷ 0 ∷ [] }
+
+-- a member of class 1 and grade 50 whose least grade is given, and who takes class 1
+unfoldable pub member : ℕ → List ℕ
+member least = 77 ∷ 1 ∷ 50 ∷ least ∷ 2 ∷ 0 ∷ 0 ∷ 0 ∷ []
+
+-- the plan of a pool value under limits, and the members that it serves: the best
+unfoldable pub plan : Pool → ℕ → ℕ → List (List ℕ)
+plan p lc lp = planOf p (limitsOf lc lp)
+
+unfoldable pub bestServed : Pool → ℕ → ℕ → ℕ
+unfolding plan
+bestServed p lc lp = served (graphOf p) (flat (plan p lc lp))
+
+unfoldable pub entryOf : Pool → ℕ → ℕ → ℕ → ℕ
+entryOf p lc lp s = entry (graphOf p) lc lp s
+
+-- ---- the rows
+
+pub rows :
+    (readPool poolA ≡ accepted valueA)
+    × (readPool poolB ≡ accepted valueB)
+    × (readPool [] ≡ accepted emptyPool)
+    -- A, 2, 2
+    × (entryOf valueA 2 2 3 ≡ 2)
+    × (entryOf valueA 2 2 6 ≡ 4)
+    × (entryOf valueA 2 2 7 ≡ 4)
+    × (entryOf valueA 2 2 15 ≡ 0)
+    × (entryOf valueA 2 2 1 ≡ 0)
+    × (plan valueA 2 2 ≡ (0 ∷ 1 ∷ 2 ∷ []) ∷ (3 ∷ 4 ∷ []) ∷ [])
+    × (bestServed valueA 2 2 ≡ 4)
+    -- A, 2, 3
+    × (entryOf valueA 2 3 15 ≡ 8)
+    × (bestServed valueA 2 3 ≡ 4)
+    -- A, 2, 4
+    × (bestServed valueA 2 4 ≡ 4)
+    × (plan valueA 2 4 ≡ (0 ∷ 1 ∷ 2 ∷ 3 ∷ 4 ∷ []) ∷ [])
+    -- A, 2, 5
+    × (bestServed valueA 2 5 ≡ 5)
+    × (plan valueA 2 5 ≡ (0 ∷ 1 ∷ 2 ∷ 3 ∷ 4 ∷ 5 ∷ []) ∷ [])
+    -- A, 2, 0
+    × (bestServed valueA 2 0 ≡ 4)
+    × (plan valueA 2 0 ≡ (1 ∷ 2 ∷ []) ∷ (3 ∷ 4 ∷ []) ∷ [])
+    -- A, 0, 2
+    × (bestServed valueA 0 2 ≡ 2)
+    × (plan valueA 0 2 ≡ (0 ∷ 1 ∷ 2 ∷ []) ∷ [])
+    -- A, 0, 0
+    × (bestServed valueA 0 0 ≡ 0)
+    × (plan valueA 0 0 ≡ [])
+    -- B, 3, 0
+    × (entryOf valueB 3 0 7 ≡ 4)
+    × (bestServed valueB 3 0 ≡ 4)
+    × (plan valueB 3 0 ≡ (0 ∷ 3 ∷ []) ∷ (1 ∷ 2 ∷ []) ∷ [])
+    × (best (worthOf (memberWorth (graphOf valueB)) 4) (marks (graphOf valueB) 3 0) 15 ≡ 4)
+    -- empty, 3, 3
+    × (bestServed emptyPool 3 3 ≡ 0)
+    -- grade 50, least 50: arc; least 51: none
+    × (recordGives (member 0) (member 50) ≡ true)
+    × (recordGives (member 0) (member 51) ≡ false)
+unfolding
+    all elem distinct keep upto total tabulate cut setOf has setWhere worthOf tested fieldsFit fieldTests recordsTested recordGives takersOf poolOf readPool
+    concatMap remove arrangements walk lastOf isCycle isChain isExchange turnedBy turned headOf lowestFirst exchanges endsAt some entry marks markedParts
+    greatestOf most best flat sublists before insert inOrder kindOf recordOf recordsOf recordForm plans better pick answer poolA valueA poolB valueB member plan bestServed entryOf
+rows =
+    (refl, refl, refl, refl, refl, refl, refl, refl, refl, refl, refl, refl, refl, refl, refl, refl, refl, refl, refl, refl, refl, refl, refl, refl, refl, refl, refl, refl, refl)

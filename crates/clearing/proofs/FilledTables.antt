@@ -1,0 +1,81 @@
+-- The two tables as clearing leaves them: the best table goes by the marks of the exchange table beside it, so it holds the best of
+-- the pool's exchanges.
+use mathlib.Core.Bool.{Bool, not}
+use mathlib.Core.List.{List, _++_}
+use mathlib.Core.Path.{_≡_, sym, ap, _∙_}
+use Prim.Native.Nat.{ℕ, _-_, _^_, _≤_, _<_}
+use native.Mathlib.Nat.{le-antisymm}
+use native.Mathlib.Omega.{arith}
+use lib.Dec.{T, eqb}
+use lib.ListN.{length, getD, drop}
+use lib.Pow.{pow-pos}
+use Rattle.pool.specs.declared.value.Pool.{Pool}
+use Rattle.pool.specs.declared.limits.Limits.{Limits}
+use Rattle.kep.specs.Lists.{flat}
+use Rattle.pool.specs.Limits.{limitsFit}
+use Rattle.kep.specs.Sets.{Part}
+use Rattle.pool.specs.Value.{graphOf, poolFits}
+use Rattle.tables.specs.Calls.{marked, worthIn, membersIn, exchangesLeft, bestLeft}
+use Rattle.kep.specs.Table.{entry, marks, best, bestOf, served, Family}
+use Rattle.clearing.specs.Clearing.{planOf, exchangesOf, bestsOf}
+use Rattle.clearing.specs.inner.Taking.{TablesHold}
+use Rattle.kep.proofs.Tables.{getD-tabulate, tabulate-below, written-front}
+use Rattle.kep.proofs.Parts.{part-le}
+use Rattle.kep.proofs.BestTable.{best-attained, best-bound}
+use Rattle.exchanges.proofs.ExchangesCall.{accepted-all, left-filled as exchanges-left}
+use Rattle.tables.proofs.BestCall.{left-filled as best-left}
+use Rattle.kep.proofs.Answer.{answer-best}
+use Rattle.kep.proofs.BestPlan.{best-count}
+
+-- ---- marks that agree on the parts of a set give it the same best
+
+module _ (v : ℕ → ℕ) (m m′ : ℕ → Bool) (s : ℕ) where
+  best-more : ((t : ℕ) → Part t s → T (m t) → T (m′ t)) → best v m s ≤ best v m′ s
+  best-more more =
+      let (ts, family, worth) = best-attained v m s in
+      let also-family : Family m′ s ts = record {
+        each = λ t i. let k = family .each t i in record { nonempty = k .nonempty; marked = more t (k .inside) (k .marked); inside = k .inside };
+        disjoint = family .disjoint;
+      } in
+      omega (arith, worth, best-bound v m′ also-family)
+
+pub best-agrees : (v : ℕ → ℕ) (m m′ : ℕ → Bool) (s : ℕ) → ((t : ℕ) → Part t s → m t ≡ m′ t) → best v m s ≡ best v m′ s
+best-agrees v m m′ s same =
+    le-antisymm (best-more v m m′ s (λ t i k. rw (← same t i) k)) (best-more v m′ m s (λ t i k. rw (same t i) k))
+
+module _ (p : Pool) (l : Limits) (fits : T (poolFits p)) where
+  -- ---- the exchange table: none of 6 to 8 is met
+
+  pub exchanges-filled : (table : List ℕ) {left : List ℕ} → T (limitsFit l) → 2 ^ p .size ≤ length table → left ≡ exchangesLeft p l table → left ≡ exchangesOf p l table
+  exchanges-filled table within long e = e ∙ sym (exchanges-left p l table (accepted-all p l table fits within long))
+
+  -- ---- the best table over it: none of 6, 8 and 9 is met
+
+  module _ (table₀ : List ℕ) {exchanges : List ℕ} (filled : exchanges ≡ exchangesOf p l table₀) where
+    -- its marks are those of the pool
+    marks-agree : (t : ℕ) → t < 2 ^ p .size → marked exchanges t ≡ marks (graphOf p) (l .cycle) (l .chain) t
+    unfolding marks
+    marks-agree t b = ap (λ (x : ℕ). not (eqb x 0)) (ap (λ (xs : List ℕ). getD xs t 0) filled ∙ getD-tabulate (entry (graphOf p) (l .cycle) (l .chain)) (2 ^ p .size) t (drop (2 ^ p .size) table₀) b)
+
+    bests-agree : (s : ℕ) → s < 2 ^ p .size → best (membersIn p) (marked exchanges) s ≡ bestOf (worthIn p) (graphOf p) (l .cycle) (l .chain) s
+    bests-agree s b = best-agrees (membersIn p) (marked exchanges) (marks (graphOf p) (l .cycle) (l .chain)) s (λ t i. marks-agree t (omega (arith, part-le i)))
+
+    pub best-filled : (table : List ℕ) {left : List ℕ} → 2 ^ p .size ≤ length exchanges → 2 ^ p .size ≤ length table → left ≡ bestLeft p exchanges table → left ≡ bestsOf p l table
+    best-filled table long also-long e =
+        e
+        ∙ best-left p exchanges table fits long also-long
+        ∙ ap (λ (xs : List ℕ). xs ++ drop (2 ^ p .size) table) (tabulate-below (best (membersIn p) (marked exchanges)) (bestOf (worthIn p) (graphOf p) (l .cycle) (l .chain)) (2 ^ p .size) bests-agree)
+
+    -- so the choice may go by both
+    pub filled-hold : (table : List ℕ) {left : List ℕ} → left ≡ bestsOf p l table → TablesHold p l exchanges left
+    filled-hold table e = record {
+      exchanges-hold = written-front (entry (graphOf p) (l .cycle) (l .chain)) (2 ^ p .size) table₀ filled;
+      best-hold = written-front (bestOf (worthIn p) (graphOf p) (l .cycle) (l .chain)) (2 ^ p .size) table e;
+    }
+
+  -- the last entry of the best table counts the members served
+  pub last-served : (table : List ℕ) {left : List ℕ} → left ≡ bestsOf p l table → getD left (2 ^ p .size - 1) 0 ≡ served (graphOf p) (flat (planOf p l))
+  last-served table e =
+      ap (λ (xs : List ℕ). getD xs (2 ^ p .size - 1) 0) e
+      ∙ getD-tabulate (bestOf (worthIn p) (graphOf p) (l .cycle) (l .chain)) (2 ^ p .size) (2 ^ p .size - 1) (drop (2 ^ p .size) table) (omega (arith, pow-pos (p .size)))
+      ∙ sym (best-count (graphOf p) (l .cycle) (l .chain) (worthIn p) (answer-best (graphOf p) (l .cycle) (l .chain) (worthIn p)))

@@ -1,0 +1,21 @@
+use borrow.Author.Needs.{needs}
+use mathlib.Core.Path.{refl}
+use native.Mathlib.Omega.{arith}
+use borrow.Author.Tests.{lt-ltb, le-ltb}
+use Rattle.clearing.proofs.step.goal_from.Statement.{statement}
+use Rattle.clearing.proofs.step.goal_from.Tie as tie
+
+returns : tie.Need-returns
+returns c = let a = c .before .args in rw (lt-ltb (a .v) (a .altruists) (c .if1 .taken)) refl
+
+mul-result : tie.Need-mul-result
+mul-result c = search needs
+
+shared-slice-read-result : tie.Need-shared-slice-read-result
+shared-slice-read-result c = search needs
+
+returns-2 : tie.Need-returns-2
+returns-2 c = let a = c .before .before .args in rw (le-ltb (a .v) (a .altruists) (omega arith)) refl
+
+pub goal-from-spec : {M : Type 1} → statement M
+goal-from-spec = tie.close (tie.spec returns mul-result shared-slice-read-result returns-2)

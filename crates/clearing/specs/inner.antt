@@ -1,0 +1,3 @@
+-- What only inner contracts and proofs use: nothing here has to be believed.
+pub mod Seeking
+pub mod Taking

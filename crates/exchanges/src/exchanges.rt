@@ -1,0 +1,37 @@
+// The exchange table: for every set of vertices, those that can stand last in an exchange that uses exactly the set and begins
+// at its lowest vertex.
+use crate::by_lowest::fill_by_lowest;
+use pool::Cause;
+use pool::Limits;
+use pool::Pool;
+use pool::Refusal;
+use pool::Verdict;
+use tables::Filled;
+use tables::all_givers;
+ghost use mathlib.Core.Path.{_≡_};
+ghost use Rattle.tables.specs.Calls.{filledOutcome, exchangesOutcome, exchangesLeft};
+
+// Fills the entries of all sets of the pool's places. Refuses by 6, 7 and 8, in that order, and then leaves the table as it was.
+pub fn fill_exchanges(pool: Pool, limits: Limits, table: &mut [u16]) -> Filled
+    ensures outcome { λ r. ⌜ filledOutcome r ≡ exchangesOutcome pool limits (now (table .entry)) ⌝ }
+    ensures left { λ _. ⌜ now (table .exit) ≡ exchangesLeft pool limits (now (table .entry)) ⌝ }
+{
+    let pool_verdict = pool.test();
+    if let Verdict::Refused(refusal) = pool_verdict {
+        return Filled::Refused(refusal);
+    }
+    let limits_verdict = limits.test();
+    if let Verdict::Refused(refusal) = limits_verdict {
+        return Filled::Refused(refusal);
+    }
+    let entries = 1usize << pool.size;
+    if table.len() < entries {
+        return Filled::Refused(Refusal {
+            cause: Cause::ExchangeTable,
+            at: 0,
+        });
+    }
+    let givers = all_givers(pool);
+    fill_by_lowest(pool, limits, &givers, table);
+    Filled::Entries(entries)
+}

@@ -1,0 +1,48 @@
+-- lists, and the tests on them
+pub mod Tests
+pub mod Each
+pub mod ListLaws
+pub mod Permutations
+pub mod Tables
+pub mod Cut
+-- sets as numbers
+pub mod SetLaws
+pub mod Parts
+pub mod Down
+pub mod Vertices
+pub mod SetOf
+pub mod Worth
+pub mod Operations
+pub mod SetLoops
+pub mod LowestBit
+pub mod Sifting
+pub mod MachineBits
+-- exchanges and the exchange table
+pub mod Walks
+pub mod Rotations
+pub mod ExchangeFacts
+pub mod Arrangements
+pub mod Ordered
+pub mod Listing
+pub mod EntryMeaning
+pub mod Paths
+pub mod Ends
+pub mod Fits
+pub mod Masking
+-- the best table
+pub mod Greatest
+pub mod BestTable
+pub mod BestFilling
+-- plans and the answer
+pub mod PlanLists
+pub mod Bytes
+pub mod InOrder
+pub mod Legal
+pub mod Choice
+pub mod Answer
+pub mod OneForm
+-- the first plan, chosen exchange by exchange
+pub mod Canonical
+pub mod Greedy
+pub mod Completion
+pub mod BestPlan

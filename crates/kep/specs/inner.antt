@@ -1,0 +1,4 @@
+-- What only inner contracts and proofs use: nothing here has to be believed.
+pub mod BestFilling
+pub mod Filling
+pub mod Paths

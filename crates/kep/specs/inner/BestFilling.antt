@@ -1,0 +1,29 @@
+-- How the best table is filled, as functions on tables. That this gives `best` is proved (`next-best`).
+use mathlib.Core.Bool.{Bool, true}
+use mathlib.Core.List.{List}
+use Prim.Native.Nat.{ℕ, _+_, _-_}
+use lib.Bits.{bitAnd}
+use lib.Count.{ones}
+use lib.ListN.{getD}
+use Rattle.kep.specs.Sets.{counted}
+use Rattle.kep.specs.Table.{markedParts, greatestOf}
+
+-- how many of `members`, the set of all members, are in t
+abbrev pub heldIn : ℕ → ℕ → ℕ
+heldIn members t = ones (bitAnd t members)
+
+-- what a set offers: its worth where it is marked, else 0
+unfoldable pub offer : (ℕ → ℕ) → (ℕ → Bool) → ℕ → ℕ
+offer v m t = counted (m t) (v t)
+
+-- the nonempty parts of s, marked or not
+abbrev pub everyPart : ℕ → List ℕ
+everyPart s = markedParts (λ _. true) s
+
+-- what trying the part t of s brings: what it offers, and the entry of what it leaves
+abbrev pub looked : List ℕ → List ℕ → ℕ → ℕ → ℕ
+looked offers table s t = getD offers t 0 + getD table (s - t) 0
+
+-- entry s, from what each set offers and the entries of the smaller sets
+unfoldable pub nextBest : List ℕ → List ℕ → ℕ → ℕ
+nextBest offers table s = greatestOf (looked offers table s) (everyPart s)
