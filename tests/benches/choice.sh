@@ -29,7 +29,7 @@ ghost use lib.Dec.{T};
 ghost use lib.ListN.{length};
 ghost use Rattle.pool.specs.Limits.{limitsOf, limitsFit};
 ghost use Rattle.pool.specs.Value.{poolFits};
-ghost use Rattle.clearing.specs.Clearing.{planOf, planWritten};
+ghost use Rattle.clearing.specs.computed.Cleared.{planOf, planWritten};
 ghost use Rattle.clearing.specs.inner.Taking.{TablesHold};
 ghost use Rattle.capi.specs.Answers.{poolFrom};
 

@@ -6,6 +6,7 @@ pub mod calls;
 pub mod large;
 pub mod lent;
 pub mod misses;
+pub mod operations;
 pub mod oracle;
 pub mod plans;
 pub mod pools;

@@ -1,5 +1,5 @@
-//! The workshop program: runs of it in folders of their own, and the text that
-//! the oracle expects of it.
+//! The workshop program: runs of it in folders of their own, by itself and through
+//! the script, and the text that the oracle expects of it.
 
 use crate::large;
 use crate::oracle::exchange::Limits;
@@ -8,7 +8,7 @@ use crate::oracle::pool::{read, Pool};
 use crate::refusal::{refuse, Refusal};
 use std::io::ErrorKind;
 use std::path::{Path, PathBuf};
-use std::process::{Command, Stdio};
+use std::process::Command;
 use std::sync::atomic::{AtomicUsize, Ordering};
 use std::{env, fs, process};
 
@@ -102,7 +102,7 @@ impl Folder {
         loop {
             let number = NEXT.fetch_add(1, Ordering::Relaxed);
             let name = format!("swapboard-{}-{number}", process::id());
-            let path = env::temp_dir().join(name);
+            let path = whole(env::temp_dir()).join(name);
             match fs::create_dir(&path) {
                 Ok(()) => return Folder { path },
                 Err(error) if error.kind() == ErrorKind::AlreadyExists => {}
@@ -119,10 +119,16 @@ impl Folder {
         self.path.join(name)
     }
 
-    fn put(&self, name: &str, bytes: Option<&Vec<u8>>) {
-        if let Some(bytes) = bytes {
-            fs::write(self.file(name), bytes).unwrap();
+    /// With these files; one that is missing is left out.
+    pub fn with(files: &Files) -> Self {
+        let folder = Folder::new();
+        let both = [("pool.bin", &files.pool), ("limits.bin", &files.limits)];
+        for (name, bytes) in both {
+            if let Some(bytes) = bytes {
+                fs::write(folder.file(name), bytes).unwrap();
+            }
         }
+        folder
     }
 
     fn holds(&self, name: &str, bytes: Option<&Vec<u8>>) -> bool {
@@ -146,9 +152,7 @@ impl Drop for Folder {
 /// What the program prints in a folder with these files, which it must leave
 /// as they are.
 pub fn printed(files: &Files) -> String {
-    let folder = Folder::new();
-    folder.put("pool.bin", files.pool.as_ref());
-    folder.put("limits.bin", files.limits.as_ref());
+    let folder = Folder::with(files);
     let printed = printed_in(folder.path());
     let kept = folder.holds("pool.bin", files.pool.as_ref())
         && folder.holds("limits.bin", files.limits.as_ref());
@@ -156,19 +160,48 @@ pub fn printed(files: &Files) -> String {
     printed
 }
 
-/// The program's standard output as text; a byte that is none shows as another.
+/// All that the program prints in a folder, where it must say nothing else.
 pub fn printed_in(folder: &Path) -> String {
-    let mut command = Command::new(program());
-    let output = command.current_dir(folder).stdin(Stdio::null()).output();
-    let output = output.expect("the program can be run");
-    assert!(output.status.code().is_some(), "{}", output.status);
-    String::from_utf8_lossy(&output.stdout).into_owned()
+    let mut program = Command::new(program());
+    let run = run(program.current_dir(folder));
+    assert!(run.said.is_empty() && run.code == Some(0), "{run:?}");
+    run.printed
 }
 
-/// Whole, because the program runs in other folders.
-fn program() -> PathBuf {
-    let ours = Path::new(env!("CARGO_MANIFEST_DIR")).join("../target/bin/swap");
-    let path = env::var_os(PROGRAM).map_or(ours, PathBuf::from);
+/// What came of a command: standard output and standard error as text, in which a
+/// byte that is none shows as another, and the exit code, none after a signal.
+#[derive(Debug)]
+pub struct Run {
+    pub printed: String,
+    pub said: String,
+    pub code: Option<i32>,
+}
+
+pub fn run(command: &mut Command) -> Run {
+    let output = command.output();
+    let output = output.unwrap_or_else(|error| panic!("{command:?}: {error}"));
+    let text = |bytes| String::from_utf8_lossy(bytes).into_owned();
+    Run {
+        printed: text(&output.stdout),
+        said: text(&output.stderr),
+        code: output.status.code(),
+    }
+}
+
+/// A path of the project, told from its root; whole, because programs run in other
+/// folders.
+pub fn of_project(path: &str) -> PathBuf {
+    whole(Path::new(env!("CARGO_MANIFEST_DIR")).join("..").join(path))
+}
+
+pub fn program() -> PathBuf {
+    env::var_os(PROGRAM).map_or_else(
+        || of_project("target/bin/swap"),
+        |path| whole(PathBuf::from(path)),
+    )
+}
+
+fn whole(path: PathBuf) -> PathBuf {
     let whole = fs::canonicalize(&path);
-    whole.unwrap_or_else(|error| panic!("no program {}: {error}", path.display()))
+    whole.unwrap_or_else(|error| panic!("no {}: {error}", path.display()))
 }

@@ -77,9 +77,11 @@ pub fn all_limits() -> Vec<Limits> {
     pairs_of(&each)
 }
 
-/// Limits up to fourteen and beyond.
-pub fn limits_around_fourteen() -> Vec<Limits> {
-    pairs_of(&[0, 1, 2, 3, 4, 5, 13, 14, 15, 16, 127, 128, 254, 255])
+/// Limits up to fourteen, and limits of which one or both are beyond.
+pub fn limits_around_fourteen() -> (Vec<Limits>, Vec<Limits>) {
+    let pairs = pairs_of(&[0, 1, 2, 3, 4, 5, 13, 14, 15, 16, 127, 128, 254, 255]);
+    let up_to = |limits: &Limits| limits.lc <= 14 && limits.lp <= 14;
+    pairs.into_iter().partition(up_to)
 }
 
 pub fn random_limits(random: &mut Random, places: usize) -> Limits {

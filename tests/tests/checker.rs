@@ -368,13 +368,13 @@ fn records_beyond_any_legal_number() {
 #[test]
 fn limits_up_to_fourteen_and_no_further() {
     let random = &mut Random::new(412);
-    for limits in limits_around_fourteen() {
-        if limits.lc > 14 || limits.lp > 14 {
-            expect_refused(random, &pool_a(), limits, &[], 7, 0);
-            expect_refused(random, &pool_a(), limits, &[255; 5], 7, 0);
-            expect_refused(random, &pool_a(), limits, &[255; 16], 7, 0);
-        } else {
-            expect_served(random, &pool_a(), limits, &[], 0);
+    let (good, bad) = limits_around_fourteen();
+    for limits in good {
+        expect_served(random, &pool_a(), limits, &[], 0);
+    }
+    for limits in bad {
+        for plan in [&[][..], &[255; 5], &[255; 16]] {
+            expect_refused(random, &pool_a(), limits, plan, 7, 0);
         }
     }
 }

@@ -634,12 +634,13 @@ fn rooms_of_fourteen_places() {
 fn limits_up_to_fourteen_and_no_further() {
     let random = &mut Random::new(314);
     let bytes = bytes_of_pool(&some_pool(random, 5));
-    for limits in limits_around_fourteen() {
-        let rooms = Rooms::needed(5);
-        if limits.lc > 14 || limits.lp > 14 {
-            expect_cleared(random, &bytes, limits, rooms, &refuse(7, 0));
-        }
+    let rooms = Rooms::needed(5);
+    let (good, bad) = limits_around_fourteen();
+    for limits in good {
         compare_in_rooms(random, &bytes, limits, rooms);
+    }
+    for limits in bad {
+        expect_cleared(random, &bytes, limits, rooms, &refuse(7, 0));
     }
 }
 

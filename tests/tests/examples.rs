@@ -1,33 +1,22 @@
 //! The examples: those for callers compile without a warning, and all print
-//! what the workshop program prints.
+//! what the workshop program prints. They need `cc` and `python3`.
 
 use std::ffi::OsStr;
 use std::fs;
 use std::path::{Path, PathBuf};
-use std::process::{Command, Output};
+use std::process::Command;
 use swapboard_tests::pools::{pool_a, pool_b};
-use swapboard_tests::program::{printed_in, text, Files, Folder};
+use swapboard_tests::program::{of_project, printed_in, run, text, Files, Folder};
 
 /// Pool A at limits 2, 2 as the document prints it.
 const ANSWER_A: &str = "served 4 of 5\nchain 0 1 2\nring 3 4\n";
 const ANSWER_B: &str = "served 4 of 4\nring 0 3\nring 1 2\n";
 
-/// A path of the project, told from its root.
-fn of_project(path: &str) -> PathBuf {
-    Path::new(env!("CARGO_MANIFEST_DIR")).join("..").join(path)
-}
-
-fn run(command: &mut Command) -> Output {
-    let output = command.output();
-    output.unwrap_or_else(|error| panic!("{command:?}: {error}"))
-}
-
 /// Standard output of a command that must end with this code.
 fn printed_by(command: &mut Command, code: i32) -> String {
-    let output = run(command);
-    let said = String::from_utf8_lossy(&output.stderr);
-    assert_eq!(output.status.code(), Some(code), "{command:?}\n{said}");
-    String::from_utf8(output.stdout).unwrap()
+    let run = run(command);
+    assert_eq!(run.code, Some(code), "{command:?}\n{run:?}");
+    run.printed
 }
 
 fn compile(source: &Path, program: &Path) {
@@ -65,15 +54,6 @@ fn c_tells_a_refusal() {
     assert_eq!(printed_by(&mut Command::new(program), 1), "refused 7 0\n");
 }
 
-fn has_python() -> bool {
-    let asked = Command::new("python3").arg("--version").output();
-    let has = asked.is_ok_and(|output| output.status.success());
-    if !has {
-        eprintln!("no python3: its example is not run");
-    }
-    has
-}
-
 fn python(source: &Path) -> Command {
     let mut python = Command::new("python3");
     python.arg(source);
@@ -90,9 +70,6 @@ fn build_shared(shared: &Path) {
 
 #[test]
 fn python_serves_pool_a() {
-    if !has_python() {
-        return;
-    }
     let source = of_project("examples/python/served.py");
     assert_eq!(printed_by(&mut python(&source), 0), ANSWER_A);
     let folder = Folder::new();
@@ -103,9 +80,6 @@ fn python_serves_pool_a() {
 
 #[test]
 fn python_tells_a_refusal() {
-    if !has_python() {
-        return;
-    }
     let folder = Folder::new();
     let shared = folder.file("shared.so");
     build_shared(&shared);
@@ -132,52 +106,4 @@ fn folders_of_pools() {
     expect_folder("examples/pool-a", &a, ANSWER_A);
     let b = Files::new(&pool_b(), 3, 0);
     expect_folder("examples/pool-b", &b, ANSWER_B);
-}
-
-/// The script beside a project in which nothing is built, told to call another
-/// program for `rt`.
-fn script_without_build(rt: &str) -> Output {
-    let project = Folder::new();
-    fs::copy(of_project("swap"), project.file("swap")).unwrap();
-    std::os::unix::fs::symlink(rt, project.file("rt")).unwrap();
-    let path = std::env::var("PATH").unwrap_or_default();
-    let path = format!("{}:{path}", project.path().display());
-    let script = project.file("swap");
-    let folder = of_project("examples/pool-a");
-    let mut bash = Command::new("bash");
-    run(bash.arg(script).arg(folder).env("PATH", path))
-}
-
-fn expect_failed(output: &Output) {
-    assert_eq!(output.status.code(), Some(1), "{output:?}");
-    assert!(output.stdout.is_empty(), "{output:?}");
-    let said = String::from_utf8_lossy(&output.stderr);
-    let told = said.lines().any(|line| line.starts_with("swap: "));
-    assert!(told, "{output:?}");
-}
-
-#[test]
-fn script_runs_the_program_from_anywhere() {
-    let script = of_project("swap").canonicalize().unwrap();
-    let elsewhere = Folder::new();
-    let named = of_project("examples/pool-a").canonicalize().unwrap();
-    let mut command = Command::new(&script);
-    command.arg(named).current_dir(elsewhere.path());
-    assert_eq!(printed_by(&mut command, 0), ANSWER_A);
-    let mut command = Command::new(&script);
-    command.arg("pool-b").current_dir(of_project("examples"));
-    assert_eq!(printed_by(&mut command, 0), ANSWER_B);
-    let mut command = Command::new(&script);
-    command.current_dir(of_project("examples/pool-b"));
-    assert_eq!(printed_by(&mut command, 0), ANSWER_B);
-}
-
-#[test]
-fn script_fails_with_a_message() {
-    let script = of_project("swap").canonicalize().unwrap();
-    expect_failed(&run(Command::new(&script).arg("no such folder")));
-    expect_failed(&run(Command::new(&script).args([".", "."])));
-    for rt in ["/bin/false", "/bin/true"] {
-        expect_failed(&script_without_build(rt));
-    }
 }

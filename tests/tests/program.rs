@@ -1,8 +1,7 @@
 //! The workshop program on whole files: all it prints, byte for byte.
 
-use swapboard_tests::oracle::exchange::Limits;
 use swapboard_tests::pools::*;
-use swapboard_tests::program::{printed, printed_in, text, Files, Folder};
+use swapboard_tests::program::{printed, text, Files};
 use swapboard_tests::random::Random;
 use swapboard_tests::samples::*;
 
@@ -182,25 +181,6 @@ fn missing_files() {
     }
 }
 
-/// Links that lead nowhere and to themselves: neither can be opened.
-#[cfg(unix)]
-#[test]
-fn files_that_cannot_be_opened() {
-    use std::os::unix::fs::symlink;
-    for target in ["nowhere.bin", "pool.bin"] {
-        let folder = Folder::new();
-        symlink(target, folder.file("pool.bin")).unwrap();
-        std::fs::write(folder.file("limits.bin"), [2, 2]).unwrap();
-        assert_eq!(printed_in(folder.path()), "served 0 of 0\n", "{target}");
-    }
-    for target in ["nowhere.bin", "limits.bin"] {
-        let folder = Folder::new();
-        symlink(target, folder.file("limits.bin")).unwrap();
-        std::fs::write(folder.file("pool.bin"), pool_a()).unwrap();
-        assert_eq!(printed_in(folder.path()), "refused 7 0\n", "{target}");
-    }
-}
-
 #[test]
 fn every_short_length_of_the_limits() {
     let lengths = (0..=20).chain([127, 128, 129, 130, 258, 4_098]);
@@ -221,14 +201,13 @@ fn every_short_length_of_the_limits() {
 
 #[test]
 fn limits_up_to_fourteen_and_no_further() {
-    for Limits { lc, lp } in limits_around_fourteen() {
-        for pool in [pool_a(), pool_b(), Vec::new()] {
-            let files = Files::new(&pool, lc, lp);
-            if lc > 14 || lp > 14 {
-                expect_refusal(&files, 7, 0);
-            } else {
-                compare(&files);
-            }
+    let (good, bad) = limits_around_fourteen();
+    for pool in [pool_a(), pool_b(), Vec::new()] {
+        for limits in &good {
+            compare(&Files::new(&pool, limits.lc, limits.lp));
+        }
+        for limits in &bad {
+            expect_refusal(&Files::new(&pool, limits.lc, limits.lp), 7, 0);
         }
     }
 }

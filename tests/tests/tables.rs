@@ -625,13 +625,13 @@ fn too_many_places_or_houses_are_refused() {
 fn limits_up_to_fourteen_and_no_further() {
     let random = &mut Random::new(221);
     let pool = some_pool(random, 4);
-    for limits in limits_around_fourteen() {
-        let expected = if limits.lc > 14 || limits.lp > 14 {
-            refuse(7, 0)
-        } else {
-            Ok(exchange::table(&pool, limits))
-        };
+    let (good, bad) = limits_around_fourteen();
+    for limits in good {
+        let expected = Ok(exchange::table(&pool, limits));
         expect_exchanges(random, &pool.value(), limits, 16, &expected);
+    }
+    for limits in bad {
+        expect_exchanges(random, &pool.value(), limits, 16, &refuse(7, 0));
     }
 }
 

@@ -5,9 +5,11 @@ use Rattle.pool.specs.declared.value.Pool.{Pool}
 use Rattle.pool.specs.Refusals.{Outcome, accepted, refused}
 use Rattle.capi.specs.declared.answer.Answer.{Answer}
 
+-- accepted: number 0, and what the call gives back
 abbrev pub acceptedWith : ℕ → ℕ → Answer
 acceptedWith first second = record { number = 0; at = 0; first = first; second = second }
 
+-- refused: the number of the cause and its spot
 abbrev pub refusedWith : ℕ → ℕ → Answer
 refusedWith number at = record { number = number; at = at; first = 0; second = 0 }
 
@@ -15,11 +17,6 @@ refusedWith number at = record { number = number; at = at; first = 0; second = 0
 abbrev pub poolAnswer : Outcome Pool → Answer
 poolAnswer (accepted p) = acceptedWith (p .size) (p .altruists)
 poolAnswer (refused number at) = refusedWith number at
-
--- the sets of an accepted pool; else what the memory held
-abbrev pub givesLeft : Outcome Pool → List ℕ → List ℕ
-givesLeft (accepted p) gives = p .gives
-givesLeft (refused number at) gives = gives
 
 -- the pool value that C tells by its parts
 abbrev pub poolFrom : ℕ → ℕ → List ℕ → Pool

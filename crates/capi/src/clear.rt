@@ -4,7 +4,8 @@ use clearing::Cleared;
 use pool::Limits;
 ghost use mathlib.Core.Path.{_≡_};
 ghost use Rattle.pool.specs.Limits.{limitsOf};
-ghost use Rattle.clearing.specs.Clearing.{clearedOutcome, clearable, clearOutcome, exchangesCleared, bestCleared, planCleared};
+ghost use Rattle.clearing.specs.Clearing.{clearedOutcome, clearable};
+ghost use Rattle.clearing.specs.computed.Cleared.{clearOutcome, exchangesCleared, bestCleared, planCleared};
 ghost use Rattle.capi.specs.Answers.{clearAnswer};
 
 // Members served and records written, of the plan that serves most and comes first.

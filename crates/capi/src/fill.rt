@@ -5,7 +5,8 @@ use pool::Pool;
 use tables::Filled;
 ghost use mathlib.Core.Path.{_≡_};
 ghost use Rattle.pool.specs.Limits.{limitsOf};
-ghost use Rattle.tables.specs.Calls.{exchangesOutcome, exchangesLeft, bestOutcome, bestLeft, filledOutcome};
+ghost use Rattle.tables.specs.Calls.{bestOutcome, bestLeft, filledOutcome};
+ghost use Rattle.exchanges.specs.ExchangesCall.{exchangesOutcome, exchangesLeft};
 ghost use Rattle.capi.specs.Answers.{poolFrom, countAnswer};
 
 // Entries written: the exchange table of a pool value under limits.

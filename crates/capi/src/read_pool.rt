@@ -2,21 +2,22 @@
 use crate::answer::Answer;
 use pool::Verdict;
 ghost use mathlib.Core.Path.{_≡_};
-ghost use Rattle.pool.specs.Records.{readPool};
-ghost use Rattle.capi.specs.Answers.{poolAnswer, givesLeft};
+ghost use Rattle.reading.specs.Records.{readPool};
+ghost use Rattle.pool.specs.Refusals.{leftBy};
+ghost use Rattle.capi.specs.Answers.{poolAnswer};
 
 // Places and houses; gives holds the pool value's sets, and is untouched on a refusal.
 #[no_mangle]
 pub extern "C" fn swap_read_pool(bytes: &[u8], gives: &mut [u16; 14]) -> Answer
     ensures answer { λ r. ⌜ r ≡ poolAnswer (readPool (now (bytes .entry))) ⌝ }
-    ensures left { λ _. ⌜ now (gives .exit) ≡ givesLeft (readPool (now (bytes .entry))) (now (gives .entry)) ⌝ }
+    ensures left { λ _. ⌜ now (gives .exit) ≡ leftBy (readPool (now (bytes .entry))) (λ p. p .gives) (now (gives .entry)) ⌝ }
 {
-    let read = pool::read_pool(bytes);
+    let read = reading::read_pool(bytes);
+    let p = read.pool;
+    let sets = p.gives;
     let verdict = read.verdict;
     match verdict {
         Verdict::Accepted => {
-            let p = read.pool;
-            let sets = p.gives;
             *gives = sets;
             Answer::accepted(p.size as u64, p.altruists as u64)
         }

@@ -1,20 +1,25 @@
--- The rows of document 01's table, computed from the definitions: one theorem.
+-- The rows of document 01's table, its whole output for pool A, and two refusals, computed from the definitions: one theorem.
 use mathlib.Core.Bool.{true, false}
 use mathlib.Core.List.{List, [], _∷_, _++_}
 use mathlib.Core.Path.{_≡_, refl}
 use Prim.Native.Nat.{ℕ}
 use Rattle.pool.specs.declared.value.Pool.{Pool}
-use Rattle.kep.specs.Lists.{all, elem, distinct, keep, upto, total, tabulate, cut, flat, sublists, before}
+use Rattle.kep.specs.Lists.{all, elem, distinct, keep, upto, total, tabulate, cut, flat, before}
+use Rattle.kep.specs.computed.Answer.{sublists, plans, better, pick, answer}
 use Rattle.kep.specs.Sets.{setOf, has, setWhere, worthOf}
 use Rattle.pool.specs.Refusals.{accepted, tested}
 use Rattle.pool.specs.Limits.{limitsOf}
 use Rattle.pool.specs.Value.{graphOf, emptyPool}
-use Rattle.pool.specs.Records.{fieldsFit, fieldTests, recordsTested, recordGives, takersOf, poolOf, readPool}
-use Rattle.kep.specs.Arrangements.{concatMap, remove, arrangements}
+use Rattle.reading.specs.Records.{fieldsFit, fieldTests, recordsTested, readPool}
+use Rattle.reading.specs.computed.Pool.{recordGives, takersOf, poolOf}
+use Rattle.kep.specs.computed.Arrangements.{concatMap, remove, arrangements}
 use Rattle.kep.specs.Exchange.{walk, lastOf, isCycle, isChain, isExchange, turnedBy, turned, headOf}
-use Rattle.kep.specs.Table.{lowestFirst, exchanges, endsAt, some, entry, marks, memberWorth, served, markedParts, greatestOf, most, best}
-use Rattle.kep.specs.Plan.{insert, inOrder, kindOf, recordOf, recordsOf, recordForm, plans, better, pick, answer}
-use Rattle.clearing.specs.Clearing.{planOf}
+use Rattle.kep.specs.Table.{lowestFirst, memberWorth, served}
+use Rattle.kep.specs.computed.Table.{exchanges, endsAt, some, entry, marks, markedParts, greatestOf, most, best}
+use Rattle.kep.specs.Plan.{insert, inOrder, kindOf, recordOf, recordsOf, recordForm}
+use Rattle.plans.specs.Check.{listed, verticesOf}
+use Rattle.clearing.specs.computed.Cleared.{planOf}
+use Rattle.report.specs.Text.{kindWord, digits, decimal, servedLine, refusedLine, placeText, placesText, recordLine, recordLines, planText, outcomeText, printed, wholeText, textOf}
 
 -- ---- the pools
 
@@ -99,9 +104,27 @@ pub rows :
     -- grade 50, least 50: arc; least 51: none
     × (recordGives (member 0) (member 50) ≡ true)
     × (recordGives (member 0) (member 51) ≡ false)
+    -- the printed text: A, 2, 2; limits that are not two bytes; a record of another kind
+    × (
+    textOf poolA (2 ∷ 2 ∷ [])
+    -- served 4 of 5
+    ≡ (115 ∷ 101 ∷ 114 ∷ 118 ∷ 101 ∷ 100 ∷ 32 ∷ 52 ∷ 32 ∷ 111 ∷ 102 ∷ 32 ∷ 53 ∷ 10 ∷ [])
+    -- chain 0 1 2
+    ++ (99 ∷ 104 ∷ 97 ∷ 105 ∷ 110 ∷ 32 ∷ 48 ∷ 32 ∷ 49 ∷ 32 ∷ 50 ∷ 10 ∷ [])
+    -- ring 3 4
+    ++ (114 ∷ 105 ∷ 110 ∷ 103 ∷ 32 ∷ 51 ∷ 32 ∷ 52 ∷ 10 ∷ [])
+    )
+    × (
+    textOf poolA (2 ∷ 2 ∷ 2 ∷ [])
+    -- refused 7 0
+    ≡ 114 ∷ 101 ∷ 102 ∷ 117 ∷ 115 ∷ 101 ∷ 100 ∷ 32 ∷ 55 ∷ 32 ∷ 48 ∷ 10 ∷ []
+    )
+    -- refused 3 0, whatever the limits
+    × (textOf (71 ∷ 0 ∷ 0 ∷ 0 ∷ 0 ∷ 0 ∷ 0 ∷ 0 ∷ []) [] ≡ 114 ∷ 101 ∷ 102 ∷ 117 ∷ 115 ∷ 101 ∷ 100 ∷ 32 ∷ 51 ∷ 32 ∷ 48 ∷ 10 ∷ [])
 unfolding
     all elem distinct keep upto total tabulate cut setOf has setWhere worthOf tested fieldsFit fieldTests recordsTested recordGives takersOf poolOf readPool
     concatMap remove arrangements walk lastOf isCycle isChain isExchange turnedBy turned headOf lowestFirst exchanges endsAt some entry marks markedParts
     greatestOf most best flat sublists before insert inOrder kindOf recordOf recordsOf recordForm plans better pick answer poolA valueA poolB valueB member plan bestServed entryOf
+    listed verticesOf kindWord digits decimal servedLine refusedLine placeText placesText recordLine recordLines planText outcomeText printed wholeText
 rows =
-    (refl, refl, refl, refl, refl, refl, refl, refl, refl, refl, refl, refl, refl, refl, refl, refl, refl, refl, refl, refl, refl, refl, refl, refl, refl, refl, refl, refl, refl)
+    (refl, refl, refl, refl, refl, refl, refl, refl, refl, refl, refl, refl, refl, refl, refl, refl, refl, refl, refl, refl, refl, refl, refl, refl, refl, refl, refl, refl, refl, refl, refl, refl)

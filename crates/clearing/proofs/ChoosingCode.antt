@@ -15,26 +15,28 @@ use Rattle.pool.specs.declared.limits.Limits.{Limits}
 use Rattle.kep.specs.Lists.{distinct, Each, none, also}
 use Rattle.pool.specs.Value.{graphOf}
 use Rattle.kep.specs.Graph.{Graph}
-use Rattle.kep.specs.Sets.{has, Part, setOf, lowest, lowestBelow, withoutVertex}
-use Rattle.kep.specs.Table.{bestOf, everything}
+use Rattle.kep.specs.Sets.{has, Part, setOf, lowestBelow, withoutVertex}
+use Rattle.kep.specs.inner.Lowest.{lowest}
+use Rattle.kep.specs.computed.Table.{bestOf, everything}
 use Rattle.tables.specs.Calls.{worthIn}
 use Rattle.kep.specs.Exchange.{headOf}
-use Rattle.kep.specs.Plan.{insert, inOrder, recordOf, recordsOf, recordForm, answer}
+use Rattle.kep.specs.Plan.{insert, inOrder, recordOf, recordsOf, recordForm, FitRecords}
+use Rattle.kep.specs.computed.Answer.{answer}
 use Rattle.kep.specs.inner.Paths.{Field}
-use Rattle.clearing.specs.inner.Taking.{Taken, nothing, first, Clean}
+use Rattle.clearing.specs.inner.Taking.{Stepped, nothing, first, Clean}
 use Rattle.kep.proofs.Each.{each-map}
 use Rattle.kep.proofs.SetLaws.{IsLowest, lowest-is, lowest-below, has-below}
 use Rattle.kep.proofs.Parts.{part-le, part-trans, in-rest}
 use Rattle.kep.proofs.SetOf.{has-setOf}
-use Rattle.kep.proofs.Vertices.{bit-le, or-without, in-without}
-use Rattle.kep.proofs.Operations.{without-or}
-use Rattle.kep.proofs.ExchangeFacts.{exchange-distinct, FitRecords}
+use Rattle.kep.proofs.Vertices.{bit-le, in-without}
+use Rattle.kep.proofs.Operations.{without-old}
+use Rattle.kep.proofs.ExchangeFacts.{exchange-distinct, fits-few}
 use Rattle.kep.proofs.Bytes.{records-snoc, record-length}
 use Rattle.kep.proofs.Legal.{Legal, in-order-told}
 use Rattle.kep.proofs.Answer.{best-determines, answer-best, answer-legal}
 use Rattle.kep.proofs.Canonical.{plan-in-order}
 use Rattle.kep.proofs.Greedy.{Leads, leads-start, leads-skip, leads-take, leads-done, Chosen, chosen-optimal, chosen-best, FirstGood, NoneGood, best-nonempty}
-use Rattle.kep.proofs.Completion.{Means, walk-first-good, none-good}
+use Rattle.kep.proofs.Completion.{Means, leftmost-first-good, none-good}
 
 -- ---- the length of records
 
@@ -82,7 +84,7 @@ pub record Made (g : Graph) (lc lp : ℕ) (w : ℕ → ℕ) (plan₀ plan : List
 module _ (g : Graph) (lc lp : ℕ) (fit : FitRecords g lc lp) where
   pub form-length : (p : List (List ℕ)) → Legal g lc lp p → length (recordForm g p) ≡ 16 * length p
   unfolding recordForm
-  form-length p legal = records-length g (each-map (λ x t. fit .few (t .0)) (in-order-told g lc lp p legal)) ∙ ap (λ (n : ℕ). 16 * n) (in-order-length p)
+  form-length p legal = records-length g (each-map (λ x t. fits-few fit (t .0)) (in-order-told g lc lp p legal)) ∙ ap (λ (n : ℕ). 16 * n) (in-order-length p)
 
   module _ (w : ℕ → ℕ) where
     pub made-start : (plan : List ℕ) → Made g lc lp w plan plan (everything g) 0
@@ -125,7 +127,7 @@ module _ (g : Graph) (lc lp : ℕ) (fit : FitRecords g lc lp) where
             long =
                 ap length (records-snoc g (m .made) x)
                 ∙ length-append (recordsOf g (m .made)) (recordOf g x)
-                ∙ ap₂ _+_ (m .long) (record-length g x (fit .few (f .good .told .0)))
+                ∙ ap₂ _+_ (m .long) (record-length g x (fits-few fit (f .good .told .0)))
                 ∙ omega arith;
             written = stands;
             inside = omega (arith, m .inside);
@@ -185,7 +187,7 @@ module _ (g : Graph) (lc lp : ℕ) (fit : FitRecords g lc lp) where
         (means : Means g lc lp w f)
         (m : Made g lc lp w plan₀ plan (f .free) records)
         (positive : 0 < bestOf w g lc lp (f .free))
-        (taken : Taken g f (nextIn plan records) told bytes)
+        (taken : Stepped g f (nextIn plan records) told bytes)
       where
         low : IsLowest (f .free) (lowest (f .free))
         low = lowest-is (f .free) (best-nonempty g lc lp w positive)
@@ -199,12 +201,12 @@ module _ (g : Graph) (lc lp : ℕ) (fit : FitRecords g lc lp) where
             some = best-nonempty g lc lp w positive
 
             without : next ≡ f .free - 2 ^ lowest (f .free)
-            without = e ∙ rw (found ∙ lowest-below 16 (f .free) some wide) (without-or 16 (f .free) wide (lowest (f .free)) ∙ or-without (f .free) (lowest (f .free)) (low .isIn))
+            without = e ∙ rw (found ∙ lowest-below 16 (f .free) some wide) (without-old 16 (f .free) wide (lowest (f .free)) (low .isIn))
 
-            go : Taken g f (nextIn plan records) told bytes → (next < f .free) × (Made g lc lp w plan₀ (withNext plan records bytes) next records × Clean next dead)
+            go : Stepped g f (nextIn plan records) told bytes → (next < f .free) × (Made g lc lp w plan₀ (withNext plan records bytes) next records × Clean next dead)
             go (nothing t b cannot) =
                 rw without (omega (arith, bit-le (f .free) (lowest (f .free)) (low .isIn), pow-pos (lowest (f .free))), (made-skip m some (none-good g lc lp w means low cannot) b, clean))
-            go (first c walk t b) = absurd (omega (arith, pow-pos (lowest (f .free))))
+            go (first c way t b) = absurd (omega (arith, pow-pos (lowest (f .free))))
 
         pub step-one : {dead : List ℕ} → told ≢ 0 → Clean (f .free - 2 ^ lowest (f .free)) dead
             → (told ≤ f .free) × (f .free - told < f .free) × (Made g lc lp w plan₀ (withNext plan records bytes) (f .free - told) (records + 1) × Clean (f .free - told) dead)
@@ -219,11 +221,11 @@ module _ (g : Graph) (lc lp : ℕ) (fit : FitRecords g lc lp) where
                   in-without (f .free) (lowest (f .free)) x (low .isIn) .1 (was, λ e. new (has-setOf (lowest (f .free) ∷ ys) once x .1 (List·Memᴰ·head e)));
             }
 
-            go : Taken g f (nextIn plan records) told bytes
+            go : Stepped g f (nextIn plan records) told bytes
                 → (told ≤ f .free) × (f .free - told < f .free) × (Made g lc lp w plan₀ (withNext plan records bytes) (f .free - told) (records + 1) × Clean (f .free - told) dead)
             go (nothing t b cannot) = absurd (ne t)
-            go (first {ys = ys} c walk t b) =
-                let taken-first = walk-first-good g lc lp w means low c walk in
+            go (first {ys = ys} c way t b) =
+                let taken-first = leftmost-first-good g lc lp w means low c way in
                 rw t (part-le (taken-first .good .inside), omega (arith, part-le (taken-first .good .inside), pow-pos (lowest (f .free))), (made-take m positive taken-first b, clean-part (less ys (taken-first .good .inside) (exchange-distinct g (taken-first .good .told .0))) clean))
 
 -- a record more is within a plan buffer that has one for each vertex

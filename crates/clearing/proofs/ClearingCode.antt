@@ -1,56 +1,60 @@
 -- The call: its tests in their order, and what it tells and leaves where one fails and where all pass.
 use mathlib.Core.List.{List}
-use mathlib.Core.Path.{_≡_, refl, sym, ap}
+use mathlib.Core.Path.{_≡_, sym, ap}
 use Prim.Native.Nat.{ℕ, _*_, _^_, _≤_, _<_}
 use lib.Dec.{T, leb→le, le→leb}
 use lib.ListN.{length}
 use Rattle.pool.specs.declared.value.Pool.{Pool}
 use Rattle.pool.specs.declared.limits.Limits.{Limits}
 use Rattle.pool.specs.Limits.{limitsFit, testLimits}
-use Rattle.pool.specs.Records.{readPool}
-use Rattle.pool.specs.Refusals.{Outcome, accepted, refused, andThen}
+use Rattle.reading.specs.Records.{readPool}
+use Rattle.pool.specs.Refusals.{Outcome, accepted, refused, tested, andThen}
 use Rattle.pool.specs.Value.{poolFits, testPool}
 use Rattle.kep.specs.Lists.{none, also}
-use Rattle.clearing.specs.Clearing.{clearTests, clearableValue, clearable, clearOutcome, exchangesCleared, bestCleared, planCleared}
+use Rattle.clearing.specs.Clearing.{lentTests, clearTests, clearableValue, clearable}
+use Rattle.clearing.specs.computed.Cleared.{clearOutcome, exchangesCleared, bestCleared, planCleared}
 use Rattle.kep.proofs.Each.{each-first, each-rest}
 use Rattle.pool.proofs.Tested.{all-held, all-pass}
-use Rattle.pool.proofs.TestsInOrder.{FirstFails, here, later, refuses, alone, short}
+use Rattle.pool.proofs.TestsInOrder.{refuses, alone, short}
+use Rattle.pool.specs.Causes.{FirstFails, here, later}
 
 -- ---- 6 to 10
 
-module _ (p : Pool) (l : Limits) (exchanges best plan : List ℕ) where
-  -- the first that fails decides
-  met : {n : ℕ} → FirstFails (clearTests p l exchanges best plan) n → refused n 0 ≡ clearableValue p l exchanges best plan
-  unfolding clearableValue
-  met r = refuses (clearTests p l exchanges best plan) 0 (accepted p) r
+module _ (p : Pool) (l : Limits) (exchanges best plan : ℕ) where
+  abbrev Told : Outcome Pool → Type 0
+  Told o = o ≡ tested (lentTests p l exchanges best plan) 0 (accepted p)
 
-  pub pool-refused : {n at : ℕ} → refused n at ≡ testPool p → refused n at ≡ clearableValue p l exchanges best plan
+  -- the first that fails decides
+  met : {n : ℕ} → FirstFails (lentTests p l exchanges best plan) n → Told (refused n 0)
+  met r = refuses (lentTests p l exchanges best plan) 0 (accepted p) r
+
+  pub pool-refused : {n at : ℕ} → refused n at ≡ testPool p → Told (refused n at)
   unfolding testPool
   pool-refused e = alone p 6 (poolFits p) 0 e (λ f. met (here f))
 
   module _ (fits : T (poolFits p)) where
-    pub limits-refused : {n at : ℕ} → refused n at ≡ testLimits l → refused n at ≡ clearableValue p l exchanges best plan
+    pub limits-refused : {n at : ℕ} → refused n at ≡ testLimits l → Told (refused n at)
     unfolding testLimits
     limits-refused e = alone l 7 (limitsFit l) 0 e (λ f. met (later fits (here f)))
 
     module _ (within : T (limitsFit l)) where
-      pub exchanges-short : length exchanges < 2 ^ p .size → refused 8 0 ≡ clearableValue p l exchanges best plan
+      pub exchanges-short : exchanges < 2 ^ p .size → Told (refused 8 0)
       exchanges-short s = met (later fits (later within (here (short s))))
 
-      module _ (exchanges-long : 2 ^ p .size ≤ length exchanges) where
-        pub best-short : length best < 2 ^ p .size → refused 9 0 ≡ clearableValue p l exchanges best plan
+      module _ (exchanges-long : 2 ^ p .size ≤ exchanges) where
+        pub best-short : best < 2 ^ p .size → Told (refused 9 0)
         best-short s = met (later fits (later within (later (le→leb _ _ exchanges-long) (here (short s)))))
 
-        module _ (best-long : 2 ^ p .size ≤ length best) where
-          pub plan-short : length plan < 16 * p .size → refused 10 0 ≡ clearableValue p l exchanges best plan
+        module _ (best-long : 2 ^ p .size ≤ best) where
+          pub plan-short : plan < 16 * p .size → Told (refused 10 0)
           plan-short s = met (later fits (later within (later (le→leb _ _ exchanges-long) (later (le→leb _ _ best-long) (here (short s))))))
 
-          pub passes-all : 16 * p .size ≤ length plan → accepted p ≡ clearableValue p l exchanges best plan
-          unfolding clearableValue
+          pub passes-all : 16 * p .size ≤ plan → Told (accepted p)
           passes-all plan-long =
-              sym (all-pass 0 (accepted p) {ts = clearTests p l exchanges best plan}
+              sym (all-pass 0 (accepted p) {ts = lentTests p l exchanges best plan}
               (also fits (also within (also (le→leb _ _ exchanges-long) (also (le→leb _ _ best-long) (also (le→leb _ _ plan-long) none))))))
 
+module _ (p : Pool) (l : Limits) (exchanges best plan : List ℕ) where
   -- what passing says
   pub record Passed : Type 0 where
     pub fits : T (poolFits p)
@@ -81,15 +85,24 @@ abbrev pub Tells : Limits → Outcome Pool → List ℕ → List ℕ → List �
 Tells l o exchanges best plan told exchanges′ best′ plan′ =
     (told ≡ clearOutcome l o) × ((exchanges′ ≡ exchangesCleared l o exchanges) × ((best′ ≡ bestCleared l o best) × (plan′ ≡ planCleared l o plan)))
 
-module _ (l : Limits) (exchanges best plan : List ℕ) where
-  -- a refusal leaves all that is lent
-  pub tells-refused : {o : Outcome Pool} {n at : ℕ} → refused n at ≡ o → Tells l o exchanges best plan (refused n at) exchanges best plan
-  tells-refused e = rw (← e) (refl, (refl, (refl, refl)))
+-- a refusal is told, and leaves all that is lent
+module _ {o : Outcome Pool} {n at : ℕ} (e : refused n at ≡ o) (l : Limits) where
+  pub told-refused : refused n at ≡ clearOutcome l o
+  told-refused = ap (clearOutcome l) e
 
-  -- what is told of one outcome is told of another that is the same
-  pub tells-same : {o o′ : Outcome Pool} {told : Outcome (ℕ × ℕ)} {exchanges′ best′ plan′ : List ℕ} → o ≡ o′
-      → Tells l o exchanges best plan told exchanges′ best′ plan′ → Tells l o′ exchanges best plan told exchanges′ best′ plan′
-  tells-same e h = rw (← e) h
+  pub exchanges-stay : (table : List ℕ) → table ≡ exchangesCleared l o table
+  exchanges-stay table = ap (λ (o : Outcome Pool). exchangesCleared l o table) e
+
+  pub best-stays : (table : List ℕ) → table ≡ bestCleared l o table
+  best-stays table = ap (λ (o : Outcome Pool). bestCleared l o table) e
+
+  pub plan-stays : (plan : List ℕ) → plan ≡ planCleared l o plan
+  plan-stays plan = ap (λ (o : Outcome Pool). planCleared l o plan) e
+
+-- what is told of one outcome is told of another that is the same
+pub tells-same : (l : Limits) (exchanges best plan : List ℕ) {o o′ : Outcome Pool} {told : Outcome (ℕ × ℕ)} {exchanges′ best′ plan′ : List ℕ} → o ≡ o′
+    → Tells l o exchanges best plan told exchanges′ best′ plan′ → Tells l o′ exchanges best plan told exchanges′ best′ plan′
+tells-same l exchanges best plan e h = rw (← e) h
 
 -- ---- reading first
 
@@ -97,3 +110,7 @@ pub read-first : (bytes : List ℕ) (l : Limits) (exchanges best plan : List ℕ
     → andThen o (λ p. clearableValue p l exchanges best plan) ≡ clearable bytes l exchanges best plan
 unfolding clearable
 read-first bytes l exchanges best plan e = ap (λ (o : Outcome Pool). andThen o (λ p. clearableValue p l exchanges best plan)) e
+
+pub read-refused : (bytes : List ℕ) {n at : ℕ} → refused n at ≡ readPool bytes
+    → (l : Limits) (exchanges best plan : List ℕ) → refused n at ≡ clearable bytes l exchanges best plan
+read-refused bytes e l exchanges best plan = read-first bytes l exchanges best plan e

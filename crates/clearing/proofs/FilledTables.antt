@@ -15,15 +15,17 @@ use Rattle.kep.specs.Lists.{flat}
 use Rattle.pool.specs.Limits.{limitsFit}
 use Rattle.kep.specs.Sets.{Part}
 use Rattle.pool.specs.Value.{graphOf, poolFits}
-use Rattle.tables.specs.Calls.{marked, worthIn, membersIn, exchangesLeft, bestLeft}
-use Rattle.kep.specs.Table.{entry, marks, best, bestOf, served, Family}
-use Rattle.clearing.specs.Clearing.{planOf, exchangesOf, bestsOf}
+use Rattle.tables.specs.Calls.{marked, worthIn, membersIn, bestLeft}
+use Rattle.exchanges.specs.ExchangesCall.{exchangesLeft}
+use Rattle.kep.specs.Table.{served, Family}
+use Rattle.kep.specs.computed.Table.{entry, marks, best, bestOf}
+use Rattle.clearing.specs.computed.Cleared.{planOf, exchangesOf, bestsOf}
 use Rattle.clearing.specs.inner.Taking.{TablesHold}
 use Rattle.kep.proofs.Tables.{getD-tabulate, tabulate-below, written-front}
 use Rattle.kep.proofs.Parts.{part-le}
 use Rattle.kep.proofs.BestTable.{best-attained, best-bound}
-use Rattle.exchanges.proofs.ExchangesCall.{accepted-all, left-filled as exchanges-left}
-use Rattle.tables.proofs.BestCall.{left-filled as best-left}
+use Rattle.exchanges.proofs.ExchangesCall.{accepted-all as exchanges-accepted}
+use Rattle.tables.proofs.BestCall.{accepted-all as best-accepted}
 use Rattle.kep.proofs.Answer.{answer-best}
 use Rattle.kep.proofs.BestPlan.{best-count}
 
@@ -47,7 +49,7 @@ module _ (p : Pool) (l : Limits) (fits : T (poolFits p)) where
   -- ---- the exchange table: none of 6 to 8 is met
 
   pub exchanges-filled : (table : List ℕ) {left : List ℕ} → T (limitsFit l) → 2 ^ p .size ≤ length table → left ≡ exchangesLeft p l table → left ≡ exchangesOf p l table
-  exchanges-filled table within long e = e ∙ sym (exchanges-left p l table (accepted-all p l table fits within long))
+  exchanges-filled table within long e = e ∙ sym (exchanges-accepted p l table fits within long .1)
 
   -- ---- the best table over it: none of 6, 8 and 9 is met
 
@@ -57,13 +59,13 @@ module _ (p : Pool) (l : Limits) (fits : T (poolFits p)) where
     unfolding marks
     marks-agree t b = ap (λ (x : ℕ). not (eqb x 0)) (ap (λ (xs : List ℕ). getD xs t 0) filled ∙ getD-tabulate (entry (graphOf p) (l .cycle) (l .chain)) (2 ^ p .size) t (drop (2 ^ p .size) table₀) b)
 
-    bests-agree : (s : ℕ) → s < 2 ^ p .size → best (membersIn p) (marked exchanges) s ≡ bestOf (worthIn p) (graphOf p) (l .cycle) (l .chain) s
+    pub bests-agree : (s : ℕ) → s < 2 ^ p .size → best (membersIn p) (marked exchanges) s ≡ bestOf (worthIn p) (graphOf p) (l .cycle) (l .chain) s
     bests-agree s b = best-agrees (membersIn p) (marked exchanges) (marks (graphOf p) (l .cycle) (l .chain)) s (λ t i. marks-agree t (omega (arith, part-le i)))
 
     pub best-filled : (table : List ℕ) {left : List ℕ} → 2 ^ p .size ≤ length exchanges → 2 ^ p .size ≤ length table → left ≡ bestLeft p exchanges table → left ≡ bestsOf p l table
     best-filled table long also-long e =
         e
-        ∙ best-left p exchanges table fits long also-long
+        ∙ sym (best-accepted p exchanges table fits long also-long .1)
         ∙ ap (λ (xs : List ℕ). xs ++ drop (2 ^ p .size) table) (tabulate-below (best (membersIn p) (marked exchanges)) (bestOf (worthIn p) (graphOf p) (l .cycle) (l .chain)) (2 ^ p .size) bests-agree)
 
     -- so the choice may go by both

@@ -2,35 +2,36 @@
 use mathlib.Core.Bool.{Bool, true, false}
 use mathlib.Core.List.{List, [], _∷_, _++_, append-assoc}
 use mathlib.Core.Path.{_≡_, refl, sym, ap, _∙_}
-use Prim.Native.Nat.{ℕ, _+_, _-_, _^_, _≤_, _<_}
+use Prim.Native.Nat.{ℕ, _+_, _-_, _≤_, _<_}
+use native.Mathlib.Nat.{lt-of-le-of-lt}
 use native.Mathlib.Omega.{arith}
 use borrow.Rule.Slice.PartMut.{midOf, postOf, putMid, mid-len, post-is}
 use lib.Bits.{bitAnd, and-le-r}
 use lib.Dec.{T}
-use lib.Pow.{pow-mono}
-use lib.ListN.{length, getD, take, drop, set, replicate, length-append, length-replicate, drop-of-length-le}
-use lib.Seq.{take-at, drop-cons, set-at, append-snoc}
+use lib.ListN.{length, getD, take, set, replicate, length-append}
+use lib.Seq.{take-at, set-at, append-snoc}
 use borrow.Author.Tests.{lt-ltb, le-ltb}
 use Rattle.pool.specs.declared.value.Pool.{Pool}
-use Rattle.kep.specs.Graph.{Graph, isAltruist}
-use Rattle.kep.specs.Sets.{sizeBelow}
-use Rattle.pool.specs.Value.{poolFits}
+use Rattle.kep.specs.Graph.{Graph, isAltruist, isMember}
+use Rattle.kep.specs.Sets.{setWhere, sizeBelow}
+use Rattle.pool.specs.Value.{graphOf, poolFits}
 use Rattle.tables.specs.Calls.{membersIn}
 use Rattle.kep.specs.Table.{served}
 use Rattle.kep.specs.Plan.{kindOf, recordOf}
+use Rattle.kep.proofs.Vertices.{where-lt}
 use Rattle.kep.proofs.Operations.{size-ones}
-use Rattle.pool.proofs.ValueLaws.{fits-size, fits-altruists}
+use Rattle.pool.proofs.ValueLaws.{fits-size}
 use Rattle.tables.proofs.BestCode.{members-held}
-use Rattle.kep.proofs.Bytes.{padded}
+use Rattle.kep.proofs.Bytes.{padded, padded-length, last-two}
 
 -- ---- its last two bytes
 
 -- the members in a set, as code counts them
-pub members-counted : (p : Pool) → T (poolFits p) → (s : ℕ) → sizeBelow 16 (bitAnd s (2 ^ p .size - 2 ^ p .altruists)) ≡ membersIn p s
+pub members-counted : (p : Pool) → T (poolFits p) → (s : ℕ) → sizeBelow 16 (bitAnd s (setWhere 16 (isMember (graphOf p)))) ≡ membersIn p s
 members-counted p fits s =
-    let members = 2 ^ p .size - 2 ^ p .altruists in
-    let most : 2 ^ p .size ≤ 2 ^ 14 = pow-mono (fits-size p fits) in
-    size-ones 16 (bitAnd s members) (omega (arith, and-le-r s members)) ∙ sym (ap (λ (held : ℕ → ℕ). held s) (members-held p (fits-altruists p fits)))
+    let members = setWhere 16 (isMember (graphOf p)) in
+    size-ones 16 (bitAnd s members) (lt-of-le-of-lt (and-le-r s members) (where-lt 16 (isMember (graphOf p))))
+    ∙ sym (ap (λ (held : ℕ → ℕ). held s) (members-held p (omega (arith, fits-size p fits))))
 
 -- the kind goes by the first vertex
 module _ (g : Graph) (x : ℕ) (xs : List ℕ) where
@@ -50,12 +51,6 @@ module _ (g : Graph) (x : ℕ) (xs : List ℕ) where
 
 -- ---- the whole record
 
--- the two bytes behind 14
-two-left : (bytes : List ℕ) → length bytes ≡ 16 → drop 14 bytes ≡ getD bytes 14 0 ∷ getD bytes 15 0 ∷ []
-two-left bytes e =
-    let none : drop 16 bytes ≡ [] = drop-of-length-le bytes {i = 16} (omega arith) in
-    drop-cons bytes 14 0 (omega arith) ∙ ap (λ (l : List ℕ). getD bytes 14 0 ∷ l) (drop-cons bytes 15 0 (omega arith) ∙ ap (λ (l : List ℕ). getD bytes 15 0 ∷ l) none)
-
 -- the vertices stand in front, and the part behind them, up to byte 14, is filled
 pub record Front (xs bytes part : List ℕ) (len : ℕ) : Type 0 where
   pub room : length bytes ≡ 16
@@ -71,12 +66,8 @@ module _ {xs bytes part : List ℕ} {len : ℕ} (f : Front xs bytes part len) wh
   put-back =
       let front : take len bytes ≡ xs = ap (take len) (f .vertices) ∙ take-at xs (f .behind) len (sym (f .count)) in
       let fill : part ≡ replicate (14 - length xs) 255 = f .filled ∙ ap (λ (k : ℕ). replicate k 255) (mid-len len 14 bytes (omega (arith, f .room)) ∙ ap (λ (k : ℕ). 14 - k) (f .count)) in
-      let last : postOf len (14 - len) bytes ≡ getD bytes 14 0 ∷ getD bytes 15 0 ∷ [] = post-is len 14 bytes (omega (arith, f .count, f .short)) ∙ two-left bytes (f .room) in
+      let last : postOf len (14 - len) bytes ≡ getD bytes 14 0 ∷ getD bytes 15 0 ∷ [] = post-is len 14 bytes (omega (arith, f .count, f .short)) ∙ last-two bytes (f .room) in
       rw (front, fill, last) (sym (append-assoc xs (replicate (14 - length xs) 255) (getD bytes 14 0 ∷ getD bytes 15 0 ∷ [])))
-
-  body-length : length (padded 14 255 xs) ≡ 14
-  unfolding padded
-  body-length = simp (length-append, length-replicate) (omega (arith, f .short))
 
   -- the last two bytes are set
   pub record-written : (g : Graph) {kind members : ℕ} → kind ≡ kindOf g xs → members ≡ served g xs
@@ -84,8 +75,9 @@ module _ {xs bytes part : List ℕ} {len : ℕ} (f : Front xs bytes part len) wh
   unfolding recordOf padded
   record-written g {kind} {members} k m =
       let body = padded 14 255 xs in
-      let first = set-at body (getD bytes 14 0) (getD bytes 15 0 ∷ []) kind 14 body-length in
-      let longer : length (body ++ kind ∷ []) ≡ 15 = length-append body (kind ∷ []) ∙ ap (λ (n : ℕ). n + 1) body-length in
+      let long = padded-length 14 255 xs (f .short) in
+      let first = set-at body (getD bytes 14 0) (getD bytes 15 0 ∷ []) kind 14 long in
+      let longer : length (body ++ kind ∷ []) ≡ 15 = length-append body (kind ∷ []) ∙ ap (λ (n : ℕ). n + 1) long in
       let second = set-at (body ++ kind ∷ []) (getD bytes 15 0) [] members 15 longer in
       ap (λ (l : List ℕ). set (set l 14 kind) 15 members) put-back
       ∙ ap (λ (l : List ℕ). set l 15 members) (first ∙ sym (append-snoc body kind (getD bytes 15 0 ∷ [])))

@@ -3,7 +3,7 @@ use mathlib.Core.Bool.{Bool, true, false, not, _&&_}
 use mathlib.Core.List.{List, [], _∷_, append-nil}
 use mathlib.Core.Logic.{_≢_, _↔_, inl, inr, ⊎-elim}
 use mathlib.Core.Path.{_≡_, refl, sym, ap, _∙_}
-use Prim.Native.Nat.{ℕ, suc, _+_, _-_, _*_, _%_, _^_, _≤_, _<_}
+use Prim.Native.Nat.{ℕ, suc, _+_, _-_, _^_, _≤_, _<_}
 use native.Mathlib.Decide.{ℕ-discrete}
 use native.Mathlib.Nat.{pos-of-ne-zero}
 use native.Mathlib.Omega.{arith}
@@ -12,34 +12,40 @@ use lib.Dec.{T, eqb, eqb→eq}
 use lib.ListN.{length, getD, set, drop-of-length-le}
 use lib.Pow.{pow-pos}
 use lib.Seq.{getD-set-same, getD-set-other, take-length}
+use borrow.Author.Tests.{not-true, not-false}
 use borrow.Rule.Slice.PartMut.{putMid, midOf, put-same}
-use Rattle.kep.specs.Sets.{has, Part, counted, setOf, lowestBelow}
+use Rattle.kep.specs.Sets.{has, Part, counted, setOf, lowestBelow, withVertex, withoutVertex}
 use Rattle.kep.specs.Exchange.{lastOf}
-use Rattle.kep.proofs.Tests.{is-true, is-false, from-true, from-false, eq→eqb, or-cases, and-iff}
+use Rattle.kep.proofs.Tests.{from-true, from-false, eq→eqb, and-iff}
 use Rattle.kep.proofs.SetLaws.{IsLowest, nonempty, lowest-is, lowest-below, has-below, has-none, not-in-empty}
-use Rattle.kep.proofs.Parts.{part-le, part-refl, part-trans, has-or, has-and, in-rest, and-part}
-use Rattle.kep.proofs.Operations.{one-shl}
-use Rattle.kep.proofs.Vertices.{in-power, in-with, with-part, with-without, in-without, bit-le}
+use Rattle.kep.proofs.Parts.{part-le, part-refl, part-trans, has-and, in-rest, and-part}
+use Rattle.kep.proofs.Operations.{with-cases, with-or, with-new, without-old}
+use Rattle.kep.proofs.Vertices.{in-with, with-part, with-without, in-without, bit-le}
 use Rattle.clearing.specs.declared.seeking.Step.{Step}
 use Rattle.kep.specs.inner.Paths.{Field, Next, Completes, Completable, stop, go-on}
 use Rattle.clearing.specs.inner.Seeking.{fieldOf, endsOf, openAt, DeadEnds, KeptBut, keptDead, Entering, Sought, nowhere, found}
 
 -- ---- where a path may end, as code tests it
 
-module _ (b : Bool) (e u : ℕ) where
-  pub no-end-bit : (T (has e u) → ⊥) → false ≡ has (counted b e) u
-  no-end-bit n = go b
+module _ (b : Bool) (e u : ℕ) {t : Bool} (test : t ≡ has e u) where
+  pub no-end : not t ≡ true → false ≡ has (counted b e) u
+  no-end n = go b
     where
       go : (b : Bool) → false ≡ has (counted b e) u
-      go true = sym (is-false (has e u) n)
+      go true = sym (not-true t n) ∙ test
       go false = sym (has-none u)
 
-  pub end-bit : T (has e u) → b ≡ has (counted b e) u
-  end-bit t = go b
+  pub end-by : not t ≡ false → b ≡ has (counted b e) u
+  end-by n = go b
     where
       go : (b : Bool) → b ≡ has (counted b e) u
-      go true = sym (is-true (has e u) t)
+      go true = sym (not-false t n) ∙ test
       go false = sym (has-none u)
+
+-- a failure as code keeps it, by bits
+pub kept-as : (dead : List ℕ) (path u : ℕ) → path < 2 ^ 16 → T (has path u) → u < 16 → getD dead (path - 2 ^ u) 0 < 2 ^ 16
+    → set dead (path - 2 ^ u) (bitOr (getD dead (path - 2 ^ u) 0) (2 ^ u)) ≡ keptDead false dead path u
+kept-as dead path u wide i l small = rw (without-old 16 path wide u i, with-or 16 (getD dead (path - 2 ^ u) 0) small u l)
 
 -- where a path goes on, its last vertex is free and was not on it
 pub last-fresh : (f : Field) (ys : List ℕ) (path u v : ℕ) → Completes f path u (v ∷ ys) → T (has (f .free) (lastOf v ys)) × (T (has path (lastOf v ys)) → ⊥)
@@ -57,14 +63,17 @@ pub record Open (f : Field) (path u left more : ℕ) : Type 0 where
 -- ---- what is lent
 
 module _ {gives exchanges best dead : List ℕ} {s : Step} {path u more : ℕ} (e : Entering gives s exchanges best dead path u more) where
-  pub path-le : path ≤ s .free
+  pub path-le : path ≤ s .free .0
   path-le = part-le (e .part)
+
+  wide-path : path < 2 ^ 16
+  wide-path = omega (arith, path-le, e .lent .wide)
+
+  came-from : withoutVertex 16 path u ≡ path - 2 ^ u
+  came-from = without-old 16 path wide-path u (e .last)
 
   pub last-lt : u < 14
   last-lt = has-below 14 path u (omega (arith, path-le, e .lent .wide)) (e .last)
-
-  pub last-le : 2 ^ u ≤ path
-  last-le = bit-le path u (e .last)
 
   -- ---- the vertices to try
 
@@ -73,24 +82,24 @@ module _ {gives exchanges best dead : List ℕ} {s : Step} {path u more : ℕ} (
 
   -- all that u gives to and that is free beside the path
   abbrev ways : ℕ
-  ways = bitAnd (getD gives u 0) (s .free - path)
+  ways = bitAnd (getD gives u 0) (s .free .0 - path)
 
   pub opens : {left : ℕ} → left ≡ openAt gives s dead path u more → Open F path u left more
   unfolding openAt
-  opens {left} q = rw q (go (eqb more 0) (eqb (bitAnd (s .goal) (s .free - path)) 0) refl refl)
+  opens {left} q = rw q (go (eqb more 0) (eqb (bitAnd (s .goal .0) (s .free .0 - path)) 0) refl refl)
     where
       none-open : ((v : ℕ) → Next F path u v → Completable F (2 ^ v + path) v → ⊥) → Open F path u 0 more
       none-open n = record { nexts = λ v h. absurd (not-in-empty v h); tried = λ v m h c. n v m c }
 
       -- where the path goes on, a vertex of the goal is left
-      met : (v : ℕ) → Next F path u v → (c : Completable F (2 ^ v + path) v) → T (has (bitAnd (s .goal) (s .free - path)) (lastOf v (c .0)))
+      met : (v : ℕ) → Next F path u v → (c : Completable F (2 ^ v + path) v) → T (has (bitAnd (s .goal .0) (s .free .0 - path)) (lastOf v (c .0)))
       met v n c =
           let end = lastOf v (c .0) in
-          rw (has-and (s .goal) (s .free - path) end)
-          (and-iff (has (s .goal) end) (has (s .free - path) end) .1 (e .aims v (c .0) (n, c .1), in-rest (e .part) end .1 (last-fresh F (c .0) path u v (n, c .1))))
+          rw (has-and (s .goal .0) (s .free .0 - path) end)
+          (and-iff (has (s .goal .0) end) (has (s .free .0 - path) end) .1 (e .aims v (c .0) (n, c .1), in-rest (e .part) end .1 (last-fresh F (c .0) path u v (n, c .1))))
 
-      in-ways : (v : ℕ) → T (has ways v) ↔ (T (has (getD gives u 0) v) × T (has (s .free - path) v))
-      in-ways v = rw (has-and (getD gives u 0) (s .free - path) v) (and-iff (has (getD gives u 0) v) (has (s .free - path) v))
+      in-ways : (v : ℕ) → T (has ways v) ↔ (T (has (getD gives u 0) v) × T (has (s .free .0 - path) v))
+      in-ways v = rw (has-and (getD gives u 0) (s .free .0 - path) v) (and-iff (has (getD gives u 0) v) (has (s .free .0 - path) v))
 
       untried : (v : ℕ) → T (has (ways - bitAnd (getD dead path 0) ways) v) ↔ (T (has ways v) × (T (has (bitAnd (getD dead path 0) ways) v) → ⊥))
       untried v = in-rest (and-part (getD dead path 0) ways) v
@@ -98,12 +107,12 @@ module _ {gives exchanges best dead : List ℕ} {s : Step} {path u more : ℕ} (
       failed : (v : ℕ) → T (has (bitAnd (getD dead path 0) ways) v) → T (has (getD dead path 0) v)
       failed v t = and-iff (has (getD dead path 0) v) (has ways v) .0 (rw has-and at t) .0
 
-      next : (v : ℕ) → T (has (getD gives u 0) v) × T (has (s .free - path) v) → Next F path u v
+      next : (v : ℕ) → T (has (getD gives u 0) v) × T (has (s .free .0 - path) v) → Next F path u v
       next v (arc, rest) = let (free, new) = in-rest (e .part) v .0 rest in record { arc = arc; free = free; new = new }
 
-      go : (full lost : Bool) → eqb more 0 ≡ full → eqb (bitAnd (s .goal) (s .free - path)) 0 ≡ lost → Open F path u (counted (not full && not lost) (ways - bitAnd (getD dead path 0) ways)) more
+      go : (full lost : Bool) → eqb more 0 ≡ full → eqb (bitAnd (s .goal .0) (s .free .0 - path)) 0 ≡ lost → Open F path u (counted (not full && not lost) (ways - bitAnd (getD dead path 0) ways)) more
       go true lost z _ = none-open (λ v n c. omega (arith, eqb→eq more 0 (from-true z), e .short (v ∷ c .0) (n, c .1)))
-      go false true _ z = none-open (λ v n c. not-in-empty (lastOf v (c .0)) (rw (eqb→eq (bitAnd (s .goal) (s .free - path)) 0 (from-true z)) at (met v n c)))
+      go false true _ z = none-open (λ v n c. not-in-empty (lastOf v (c .0)) (rw (eqb→eq (bitAnd (s .goal .0) (s .free .0 - path)) 0 (from-true z)) at (met v n c)))
       go false false z _ = record {
         nexts = λ v h. (next v (in-ways v .0 (untried v .0 h .0)), pos-of-ne-zero (λ k. from-false z (eq→eqb more 0 k)));
         tried = λ v n h c. h (untried v .1 (in-ways v .1 (n .arc, in-rest (e .part) v .1 (n .free, n .new)), λ t. e .failed .sound path v (e .part) (nonempty path u (e .last)) (failed v t) c));
@@ -115,30 +124,30 @@ module _ {gives exchanges best dead : List ℕ} {s : Step} {path u more : ℕ} (
     no-next : (v : ℕ) → Next F path u v → Completable F (2 ^ v + path) v → ⊥
     no-next v n c = o .tried v n (λ h. not-in-empty v (rw none at h)) c
 
-    no-end : (T (has (endsOf s exchanges best path) u) → ⊥) → Completable F path u → ⊥
-    no-end n ([], c) = n c
-    no-end n (v ∷ ys, c) = no-next v (c .0) (ys, c .1)
+    not-here : (T (has (endsOf s exchanges best path) u) → ⊥) → Completable F path u → ⊥
+    not-here n ([], c) = n c
+    not-here n (v ∷ ys, c) = no-next v (c .0) (ys, c .1)
 
     one-more : (T (has (endsOf s exchanges best path) u) → ⊥) → DeadEnds F (keptDead false dead path u)
     one-more n = record { sound = λ p x i l h c. go p x i l h c (ℕ-discrete p before) }
       where
         before : ℕ
-        before = path - 2 ^ u
+        before = withoutVertex 16 path u
 
         more-dead : ℕ
-        more-dead = bitOr (getD dead before 0) (2 ^ u)
+        more-dead = withVertex 16 (getD dead before 0) u
 
         here : getD (set dead before more-dead) before 0 ≡ more-dead
-        here = getD-set-same dead before more-dead 0 (omega (arith, path-le, e .dead-long))
+        here = getD-set-same dead before more-dead 0 (omega (arith, came-from, path-le, e .dead-long))
 
-        at-before : (x : ℕ) → Part before (s .free) → 0 < before → T (has more-dead x) → Completable F (2 ^ x + before) x → ⊥
+        at-before : (x : ℕ) → Part before (s .free .0) → 0 < before → T (has more-dead x) → Completable F (2 ^ x + before) x → ⊥
         at-before x i l h c =
             ⊎-elim
             (λ k. e .failed .sound before x i l k c)
-            (λ k. no-end n (rw (with-without path u (e .last)) at (rw (in-power u x .0 k) at c)))
-            (or-cases (has (getD dead before 0) x) (has (2 ^ u) x) (rw has-or at h))
+            (λ k. let whole : 2 ^ x + before ≡ path = ap (λ (y : ℕ). 2 ^ y + before) k ∙ omega (arith, came-from, with-without path u (e .last)) in not-here n (rw k at (rw whole at c)))
+            (with-cases 16 (getD dead before 0) u x h)
 
-        go : (p x : ℕ) → Part p (s .free) → 0 < p → T (has (getD (set dead before more-dead) p 0) x) → Completable F (2 ^ x + p) x → Dec (p ≡ before) → ⊥
+        go : (p x : ℕ) → Part p (s .free .0) → 0 < p → T (has (getD (set dead before more-dead) p 0) x) → Completable F (2 ^ x + p) x → Dec (p ≡ before) → ⊥
         go p x i l h c (yes q) = at-before x (rw q at i) (rw q at l) (rw (q, here) at h) (rw q at c)
         go p x i l h c (no ne) = e .failed .sound p x i l (rw (getD-set-other dead before p more-dead 0 ne) at h) c
 
@@ -153,12 +162,12 @@ module _ {gives exchanges best dead : List ℕ} {s : Step} {path u more : ℕ} (
               → DeadEnds F dead′ × (KeptBut path u dead₀ dead′ × Sought F path u bytes₀ told bytes)
           go true q t d = (rw d (e .failed), (record { same = λ S n _. rw d (untouched S n) }, found {ys = []} (rw q tt) (stop no-next) (t ∙ omega arith) same))
           go false q t d =
-              let not-here : T (has (endsOf s exchanges best path) u) → ⊥ = λ h. rw q at h in
-              let before = path - 2 ^ u in (
-                rw d (one-more not-here),
+              let no : T (has (endsOf s exchanges best path) u) → ⊥ = λ h. rw q at h in
+              let before = withoutVertex 16 path u in (
+                rw d (one-more no),
                 (
-                  record { same = λ S n ne. rw d (getD-set-other dead before S (bitOr (getD dead before 0) (2 ^ u)) 0 ne ∙ untouched S n) },
-                  nowhere t same (no-end not-here),
+                  record { same = λ S n ne. rw d (getD-set-other dead before S (withVertex 16 (getD dead before 0) u) 0 (λ q. ne (q ∙ came-from)) ∙ untouched S n) },
+                  nowhere t same (not-here no),
                 ),
               )
 
@@ -190,109 +199,107 @@ module _ {gives exchanges best dead₀ bytes₀ dead bytes : List ℕ} {s : Step
     room = t .opens .nexts v (is-low .isIn) .1
 
     pub next-lt : v < 14
-    next-lt = has-below 14 (s .free) v (t .entering .lent .wide) (next .free)
+    next-lt = has-below 14 (s .free .0) v (t .entering .lent .wide) (next .free)
 
-    longer-part : Part (2 ^ v + path) (s .free)
+    longer-part : Part (2 ^ v + path) (s .free .0)
     longer-part = with-part v (t .entering .part) (next .free) (next .new)
 
-    pub longer-le : 2 ^ v + path ≤ s .free
+    pub longer-le : 2 ^ v + path ≤ s .free .0
     longer-le = part-le longer-part
 
-    pub bit-left : 2 ^ v ≤ left
-    bit-left = bit-le left v (is-low .isIn)
-
-    -- as the machine makes it
-    pub bit-is : 1 * 2 ^ v % 2 ^ 16 ≡ 2 ^ v
-    bit-is = one-shl 16 v (omega (arith, next-lt))
-
-    pub longer-is : path + 1 * 2 ^ v % 2 ^ 16 ≡ 2 ^ v + path
-    longer-is = omega (arith, bit-is)
-
-    -- fewer vertices are free beside the longer path
-    pub deeper-falls : s .free - (path + 1 * 2 ^ v % 2 ^ 16) < s .free - path
-    deeper-falls = omega (arith, longer-is, longer-le, pow-pos v)
-
-    -- the search from v on
-    deeper′ : {more : ℕ} → more ≡ length bytes - 1 → Entering gives s exchanges best dead (2 ^ v + path) v more
-    unfolding lastOf
-    deeper′ q = record {
-      lent = t .entering .lent;
-      dead-long = t .entering .dead-long;
-      part = longer-part;
-      last = in-with path v v (next .new) .1 (inl refl);
-      short = λ ys c. omega (arith, t .entering .short (v ∷ ys) (next, c));
-      aims = λ w ys c. t .entering .aims v (w ∷ ys) (next, c);
-      failed = t .entering .failed;
-    }
-
-    pub deeper : {more : ℕ} → more ≡ length bytes - 1 → Entering gives s exchanges best dead (path + 1 * 2 ^ v % 2 ^ 16) v more
-    deeper q = rw longer-is (deeper′ q)
-
-    -- the sets whose entries it changes hold the path too
-    still-untouched : {dead′ : List ℕ} → KeptBut (path + 1 * 2 ^ v % 2 ^ 16) v dead dead′ → (S : ℕ) → (Part path S → ⊥) → getD dead′ S 0 ≡ getD dead₀ S 0
-    still-untouched k S n = k .same S (λ i. n (part-trans within-longer (rw longer-is at i))) (λ e. n (rw (e ∙ came-from) (part-refl path))) ∙ t .untouched S n
-      where
-        came-from : path + 1 * 2 ^ v % 2 ^ 16 - 2 ^ v ≡ path
-        came-from = omega (arith, bit-is)
-
-        within-longer : Part path (2 ^ v + path)
-        within-longer = record { within = λ x h. in-with path v x (next .new) .1 (inr h) }
-
-    pub kept-there : {dead′ : List ℕ} → KeptBut (path + 1 * 2 ^ v % 2 ^ 16) v dead dead′ → KeptBut path u dead₀ dead′
-    kept-there k = record { same = λ S n _. still-untouched k S n }
-
-    -- what it tells and writes
-    module _ {written : List ℕ} {told : ℕ} (rest : Sought G (path + 1 * 2 ^ v % 2 ^ 16) v (midOf 1 (length bytes - 1) bytes) told written) where
-      -- it finds an exchange
-      pub found-there : told ≢ 0 → Sought G path u bytes₀ told (set (putMid 1 (length bytes - 1) bytes written) 0 v)
-      unfolding setOf
-      found-there ne = rw (← t .same-bytes) (go bytes room (rw longer-is at rest))
-        where
-          lower : (x : ℕ) → x < v → Next G path u x → Completable G (2 ^ x + path) x → ⊥
-          lower x l n c = t .opens .tried x n (λ h. omega (arith, is-low .least x h)) c
-
-          go : (bytes : List ℕ) → 0 < length bytes → Sought G (2 ^ v + path) v (midOf 1 (length bytes - 1) bytes) told written → Sought G path u bytes told (set (putMid 1 (length bytes - 1) bytes written) 0 v)
-          go bytes l (nowhere z w n) = absurd (ne z)
-          go [] l (found c w k b) = absurd (omega arith)
-          go (x ∷ bytes) l (found {ys = ys} c w k b) =
-              let whole : suc (length bytes) - 1 ≡ length bytes = omega arith in
-              found {ys = v ∷ ys} (next, c) (go-on next lower w) (k ∙ omega arith)
-              (ap (λ (l : List ℕ). v ∷ l) (rw (b, whole, take-length bytes, drop-of-length-le bytes {i = length bytes} (omega arith), append-nil)))
-
-      -- it finds nothing: the others are left, and nothing is written
-      pub none-there : {dead′ : List ℕ} → told ≡ 0 → length dead′ ≡ length dead → DeadEnds G dead′ → KeptBut (path + 1 * 2 ^ v % 2 ^ 16) v dead dead′
-          → Trying gives s exchanges best dead₀ bytes₀ path u dead′ (putMid 1 (length bytes - 1) bytes written) (left - 1 * 2 ^ v % 2 ^ 16)
-      none-there {dead′} z same failed kept = go (rw longer-is at rest)
-        where
-          others : (Completable G (2 ^ v + path) v → ⊥) → Open G path u (left - 2 ^ v) (length bytes)
-          others vain = record { nexts = λ x h. t .opens .nexts x (in-without left v x (is-low .isIn) .0 h .0); tried = λ x n h c. tried x n h c (ℕ-discrete x v) }
-            where
-              tried : (x : ℕ) → Next G path u x → (T (has (left - 2 ^ v) x) → ⊥) → Completable G (2 ^ x + path) x → Dec (x ≡ v) → ⊥
-              tried x n h c (yes q) = vain (rw q at c)
-              tried x n h c (no ne) = t .opens .tried x n (λ k. h (in-without left v x (is-low .isIn) .1 (k, ne))) c
-
-          go : Sought G (2 ^ v + path) v (midOf 1 (length bytes - 1) bytes) told written
-              → Trying gives s exchanges best dead₀ bytes₀ path u dead′ (putMid 1 (length bytes - 1) bytes written) (left - 1 * 2 ^ v % 2 ^ 16)
-          go (found c w k b) = absurd (omega (arith, pow-pos v))
-          go (nowhere _ w vain) =
-              rw (w, put-same 1 (length bytes - 1) bytes, bit-is)
-              (record {
-                same-dead = same ∙ t .same-dead;
-                untouched = still-untouched kept;
-                same-bytes = t .same-bytes;
-                fits = omega (arith, t .fits);
-                entering = record {
-                  lent = t .entering .lent;
-                  dead-long = omega (arith, t .entering .dead-long);
-                  part = t .entering .part;
-                  last = t .entering .last;
-                  short = t .entering .short;
-                  aims = t .entering .aims;
-                  failed = failed;
-                };
-                opens = others vain;
-              })
+    -- v left out of those left
+    pub others-are : {rest : ℕ} → rest ≡ withoutVertex 16 left v → rest ≡ left - 2 ^ v
+    others-are e = e ∙ without-old 16 left (t .fits) v (is-low .isIn)
 
     -- fewer are left
-    pub onward-falls : left - 1 * 2 ^ v % 2 ^ 16 < left
-    onward-falls = omega (arith, bit-is, bit-left, pow-pos v)
+    pub onward-falls : {rest : ℕ} → rest ≡ withoutVertex 16 left v → rest < left
+    onward-falls e = omega (arith, others-are e, bit-le left v (is-low .isIn), pow-pos v)
+
+    -- the path with v, as code makes it
+    module _ {longer : ℕ} (put : longer ≡ withVertex 16 path v) where
+      longer-is : longer ≡ 2 ^ v + path
+      longer-is = put ∙ with-new 16 path (wide-path (t .entering)) v (omega (arith, next-lt)) (next .new)
+
+      -- fewer vertices are free beside it
+      pub deeper-falls : s .free .0 - longer < s .free .0 - path
+      deeper-falls = omega (arith, longer-is, longer-le, pow-pos v)
+
+      -- the search from v on
+      pub deeper : {more : ℕ} → more ≡ length bytes - 1 → Entering gives s exchanges best dead longer v more
+      unfolding lastOf
+      deeper q =
+          rw longer-is
+          (record {
+            lent = t .entering .lent;
+            dead-long = t .entering .dead-long;
+            part = longer-part;
+            last = in-with path v v (next .new) .1 (inl refl);
+            short = λ ys c. omega (arith, t .entering .short (v ∷ ys) (next, c));
+            aims = λ w ys c. t .entering .aims v (w ∷ ys) (next, c);
+            failed = t .entering .failed;
+          })
+
+      -- the sets whose entries it changes hold the path too
+      still-untouched : {dead′ : List ℕ} → KeptBut longer v dead dead′ → (S : ℕ) → (Part path S → ⊥) → getD dead′ S 0 ≡ getD dead₀ S 0
+      still-untouched k S n = k .same S (λ i. n (part-trans within-longer (rw longer-is at i))) (λ e. n (rw (e ∙ path-is) (part-refl path))) ∙ t .untouched S n
+        where
+          path-is : longer - 2 ^ v ≡ path
+          path-is = omega (arith, longer-is)
+
+          within-longer : Part path (2 ^ v + path)
+          within-longer = record { within = λ x h. in-with path v x (next .new) .1 (inr h) }
+
+      pub kept-there : {dead′ : List ℕ} → KeptBut longer v dead dead′ → KeptBut path u dead₀ dead′
+      kept-there k = record { same = λ S n _. still-untouched k S n }
+
+      -- what it tells and writes
+      module _ {written : List ℕ} {told : ℕ} (rest : Sought G longer v (midOf 1 (length bytes - 1) bytes) told written) where
+        -- it finds an exchange
+        pub found-there : told ≢ 0 → Sought G path u bytes₀ told (set (putMid 1 (length bytes - 1) bytes written) 0 v)
+        unfolding setOf
+        found-there ne = rw (← t .same-bytes) (go bytes room (rw longer-is at rest))
+          where
+            lower : (x : ℕ) → x < v → Next G path u x → Completable G (2 ^ x + path) x → ⊥
+            lower x l n c = t .opens .tried x n (λ h. omega (arith, is-low .least x h)) c
+
+            go : (bytes : List ℕ) → 0 < length bytes → Sought G (2 ^ v + path) v (midOf 1 (length bytes - 1) bytes) told written → Sought G path u bytes told (set (putMid 1 (length bytes - 1) bytes written) 0 v)
+            go bytes l (nowhere z w n) = absurd (ne z)
+            go [] l (found c w k b) = absurd (omega arith)
+            go (x ∷ bytes) l (found {ys = ys} c w k b) =
+                let whole : suc (length bytes) - 1 ≡ length bytes = omega arith in
+                found {ys = v ∷ ys} (next, c) (go-on next lower w) (k ∙ omega arith)
+                (ap (λ (l : List ℕ). v ∷ l) (rw (b, whole, take-length bytes, drop-of-length-le bytes {i = length bytes} (omega arith), append-nil)))
+
+        -- it finds nothing: the others are left, and nothing is written
+        pub none-there : {dead′ : List ℕ} {others : ℕ} → others ≡ withoutVertex 16 left v → told ≡ 0 → length dead′ ≡ length dead → DeadEnds G dead′ → KeptBut longer v dead dead′
+            → Trying gives s exchanges best dead₀ bytes₀ path u dead′ (putMid 1 (length bytes - 1) bytes written) others
+        none-there {dead′} {others} removed z same failed kept = go (rw longer-is at rest)
+          where
+            still-open : (Completable G (2 ^ v + path) v → ⊥) → Open G path u (left - 2 ^ v) (length bytes)
+            still-open vain = record { nexts = λ x h. t .opens .nexts x (in-without left v x (is-low .isIn) .0 h .0); tried = λ x n h c. tried x n h c (ℕ-discrete x v) }
+              where
+                tried : (x : ℕ) → Next G path u x → (T (has (left - 2 ^ v) x) → ⊥) → Completable G (2 ^ x + path) x → Dec (x ≡ v) → ⊥
+                tried x n h c (yes q) = vain (rw q at c)
+                tried x n h c (no ne) = t .opens .tried x n (λ k. h (in-without left v x (is-low .isIn) .1 (k, ne))) c
+
+            go : Sought G (2 ^ v + path) v (midOf 1 (length bytes - 1) bytes) told written
+                → Trying gives s exchanges best dead₀ bytes₀ path u dead′ (putMid 1 (length bytes - 1) bytes written) others
+            go (found c w k b) = absurd (omega (arith, pow-pos v))
+            go (nowhere _ w vain) =
+                rw (w, put-same 1 (length bytes - 1) bytes, others-are removed)
+                (record {
+                  same-dead = same ∙ t .same-dead;
+                  untouched = still-untouched kept;
+                  same-bytes = t .same-bytes;
+                  fits = omega (arith, t .fits);
+                  entering = record {
+                    lent = t .entering .lent;
+                    dead-long = omega (arith, t .entering .dead-long);
+                    part = t .entering .part;
+                    last = t .entering .last;
+                    short = t .entering .short;
+                    aims = t .entering .aims;
+                    failed = failed;
+                  };
+                  opens = still-open vain;
+                })

@@ -4,7 +4,7 @@ use mathlib.Core.Bool.{Bool, true, false}
 use mathlib.Core.List.{List, [], _∷_, _++_, append-assoc}
 use mathlib.Core.Logic.{_↔_, _≢_}
 use mathlib.Core.Path.{_≡_, refl, sym, ap, _∙_}
-use Prim.Native.Nat.{ℕ, zero, suc, _+_, _-_, _*_, _%_, _^_, _≤_, _<_}
+use Prim.Native.Nat.{ℕ, zero, suc, _+_, _-_, _^_, _≤_, _<_}
 use native.Mathlib.Omega.{arith}
 use borrow.Author.Tests.{lt-ltb, le-ltb}
 use borrow.Rule.Slice.PartMut.{midOf, putMid, put-same, mid-len}
@@ -16,19 +16,20 @@ use lib.Seq.{getD-take}
 use Rattle.pool.specs.declared.value.Pool.{Pool}
 use Rattle.pool.specs.declared.limits.Limits.{Limits}
 use Rattle.kep.specs.Lists.{tabulate}
-use Rattle.kep.specs.Sets.{has, Part, counted, setOf, lowest, lowestBelow, sizeBelow}
+use Rattle.kep.specs.Sets.{has, Part, counted, setOf, lowestBelow, setWhere, sizeBelow, withVertex}
+use Rattle.kep.specs.inner.Lowest.{lowest}
 use Rattle.pool.specs.Value.{graphOf, poolFits}
 use Rattle.kep.specs.Exchange.{lastOf}
-use Rattle.kep.specs.Graph.{givers}
-use Rattle.kep.specs.Table.{bestOf, entry}
+use Rattle.kep.specs.Graph.{isMember, givers}
+use Rattle.kep.specs.computed.Table.{bestOf, entry}
 use Rattle.tables.specs.Calls.{worthIn}
 use Rattle.clearing.specs.declared.seeking.Step.{Step}
 use Rattle.kep.specs.Plan.{recordOf}
 use Rattle.kep.specs.inner.Paths.{Field, Completes}
 use Rattle.clearing.specs.inner.Seeking.{fieldOf, endsOf, KeptBut, Entering, Sought, nowhere, found}
-use Rattle.clearing.specs.inner.Taking.{TablesHold, Choosing, Clean, moreBy, goalBy, stepOf, poolField, Taken, nothing, first, Fronted}
+use Rattle.clearing.specs.inner.Taking.{TablesHold, Choosing, Clean, moreBy, goalBy, stepOf, poolField, Stepped, nothing, first, Fronted}
 use Rattle.kep.proofs.Each.{each-first}
-use Rattle.kep.proofs.Operations.{one-shl}
+use Rattle.kep.proofs.Operations.{with-new}
 use Rattle.kep.proofs.Parts.{part-le, part-trans, rest-part}
 use Rattle.kep.proofs.SetLaws.{IsLowest, lowest-is, lowest-below, has-below, has-full, not-in-empty}
 use Rattle.kep.proofs.SetOf.{setOf-lt}
@@ -82,7 +83,7 @@ module _ {p : Pool} {l : Limits} {exchanges best : List ℕ} (hold : TablesHold 
       ends : {S : ℕ} (u : ℕ) → Part S free → T (has (endsOf (stepOf p free) exchanges best S) u) ↔ MayEnd (graphOf p) (l .cycle) (l .chain) (worthIn p) free S u
       ends {S} u part =
           let below : S < 2 ^ p .size = omega (arith, part-le part) in
-          let reached = sizeBelow 16 (bitAnd S (2 ^ p .size - 2 ^ p .altruists)) + getD best (free - S) 0 in
+          let reached = sizeBelow 16 (bitAnd S (setWhere 16 (isMember (graphOf p)))) + getD best (free - S) 0 in
           let entry-is : getD exchanges S 0 ≡ entryIn p l S = front-at (entryIn p l) (2 ^ p .size) exchanges (hold .exchanges-hold) S below in
           let r = in-counted (eqb reached (getD best free 0)) (getD exchanges S 0) u in (
             λ t. record { last = rw entry-is at (r .0 t .1); exact = rw (members-counted p fits S, best-at (free - S) (omega arith), best-at free wide) at (eqb→eq reached (getD best free 0) (r .0 t .0)) },
@@ -148,11 +149,11 @@ module _ {p : Pool} {l : Limits} {gs exchanges best : List ℕ} (c : Choosing p 
         go (chain x) = rw (lt-ltb (lowest free) (p .altruists) (x .altruist)) (x .short)
 
     -- where it goes on, it ends at a vertex of the goal
-    aims : (x : ℕ) (ys : List ℕ) → Completes F (2 ^ lowest free) (lowest free) (x ∷ ys) → T (has (stepOf p free .goal) (lastOf x ys))
+    aims : (x : ℕ) (ys : List ℕ) → Completes F (2 ^ lowest free) (lowest free) (x ∷ ys) → T (has (stepOf p free .goal .0) (lastOf x ys))
     unfolding lastOf
     aims x ys k = go (exchange (x ∷ ys) k)
       where
-        go : Exchange (graphOf p) (l .cycle) (l .chain) (lowest free ∷ x ∷ ys) → T (has (stepOf p free .goal) (lastOf x ys))
+        go : Exchange (graphOf p) (l .cycle) (l .chain) (lowest free ∷ x ∷ ys) → T (has (stepOf p free .goal .0) (lastOf x ys))
         go (cycle e) =
             rw (le-ltb (lowest free) (p .altruists) (member-between (graphOf p) (lowest free) (each-first (e .members)) .0))
             (in-givers (graphOf p) (fits-formed p (c .fits)) (lowest free) (lastOf x ys) .1 (e .closes))
@@ -161,88 +162,92 @@ module _ {p : Pool} {l : Limits} {gs exchanges best : List ℕ} (c : Choosing p 
             rw (lt-ltb (lowest free) (p .altruists) (e .altruist)) (has-full 16 (lastOf x ys) (omega arith))
 
     -- as the code makes it
-    module _ {members goal : ℕ} (members-are : members ≡ 2 ^ p .size - 2 ^ p .altruists) (goal-is : goal ≡ goalBy (ltb v (p .altruists)) (getD gs v 0)) where
-      abbrev step : Step
-      step = record { free = free; members = members; goal = goal }
+    module _ {members goal path : ℕ}
+        (members-are : members ≡ setWhere 16 (isMember (graphOf p)))
+        (goal-is : goal ≡ goalBy (ltb v (p .altruists)) (getD gs v 0))
+        (path-is : path ≡ withVertex 16 0 v)
+      where
+        abbrev step : Step
+        step = record { free = record { 0 = free }; members = record { 0 = members }; goal = record { 0 = goal } }
 
-      step-is : step ≡ stepOf p free
-      step-is = rw (members-are, goal-is, c .givers-are, getD-whole (givers (graphOf p)) 14 v first-lt, low)
+        step-is : step ≡ stepOf p free
+        step-is = rw (members-are, goal-is, c .givers-are, getD-whole (givers (graphOf p)) 14 v first-lt, low)
 
-      first-bit : 1 * 2 ^ v % 2 ^ 16 ≡ 2 ^ lowest free
-      first-bit = one-shl 16 v (omega (arith, first-lt)) ∙ ap (λ (x : ℕ). 2 ^ x) low
+        first-bit : path ≡ 2 ^ lowest free
+        first-bit = path-is ∙ with-new 16 0 (omega arith) v (omega (arith, first-lt)) (not-in-empty v) ∙ rw low (omega arith)
 
-      pub starts : {more : ℕ} → more ≡ moreBy (ltb v (p .altruists)) (l .cycle) (l .chain) → length (p .gives) ≡ 14
-          → {dead : List ℕ} → Clean free dead → Entering (p .gives) step exchanges best dead (1 * 2 ^ v % 2 ^ 16) v more
-      starts e long clean =
-          rw (first-bit, step-is, e, low)
-          (record {
-            lent = record { gives-long = long; exchanges-long = omega (arith, exchanges-long (c .hold)); best-long = omega (arith, best-long (c .hold)); wide = small };
-            dead-long = omega (arith, clean .long, small);
-            part = power-part free (lowest free) (is-low .isIn);
-            last = in-power (lowest free) (lowest free) .1 refl;
-            short = short;
-            aims = aims;
-            failed = record { sound = λ path x i l h k. not-in-empty x (rw (clean .none path i l) at h) };
-          })
+        pub starts : {more : ℕ} → more ≡ moreBy (ltb v (p .altruists)) (l .cycle) (l .chain) → length (p .gives) ≡ 14
+            → {dead : List ℕ} → Clean free dead → Entering (p .gives) step exchanges best dead path v more
+        starts e long clean =
+            rw (first-bit, step-is, e, low)
+            (record {
+              lent = record { gives-long = long; exchanges-long = omega (arith, exchanges-long (c .hold)); best-long = omega (arith, best-long (c .hold)); wide = small };
+              dead-long = omega (arith, clean .long, small);
+              part = power-part free (lowest free) (is-low .isIn);
+              last = in-power (lowest free) (lowest free) .1 refl;
+              short = short;
+              aims = aims;
+              failed = record { sound = λ path x i l h k. not-in-empty x (rw (clean .none path i l) at h) };
+            })
 
-      -- what it keeps is on sets with the lowest free vertex, so it is clean on the others
-      pub still-clean : {dead dead′ : List ℕ} → Clean free dead → length dead′ ≡ length dead → KeptBut (1 * 2 ^ v % 2 ^ 16) v dead dead′ → Clean (free - 2 ^ lowest free) dead′
-      still-clean {dead} {dead′} clean same kept = record { long = same ∙ clean .long; none = none }
-        where
-          rest : Part (free - 2 ^ lowest free) free
-          rest = rest-part (power-part free (lowest free) (is-low .isIn))
-
-          kept-low : KeptBut (2 ^ lowest free) (lowest free) dead dead′
-          kept-low = rw (first-bit, low) at kept
-
-          none : (S : ℕ) → Part S (free - 2 ^ lowest free) → 0 < S → getD dead′ S 0 ≡ 0
-          none S i some-in =
-              kept-low .same S
-              (λ k. in-without free (lowest free) (lowest free) (is-low .isIn) .0 (i .within (lowest free) (k .within (lowest free) (in-power (lowest free) (lowest free) .1 refl))) .1 refl)
-              (λ e. omega arith)
-              ∙ clean .none S (part-trans i rest) some-in
-
-      -- ---- what it takes
-
-      module _ (k : ℕ) (bytes : List ℕ) {told : ℕ} {written : List ℕ} (sought : Sought (fieldOf (p .gives) step exchanges best) (1 * 2 ^ v % 2 ^ 16) v (midOf 1 k bytes) told written) where
-        sought-low : Sought F (2 ^ lowest free) (lowest free) (midOf 1 k bytes) told written
-        sought-low = rw (first-bit, step-is, low) at sought
-
-        pub none-taken : told ≡ 0 → Taken (graphOf p) F bytes 0 (putMid 1 k bytes written)
-        none-taken z = go sought-low
+        -- what it keeps is on sets with the lowest free vertex, so it is clean on the others
+        pub still-clean : {dead dead′ : List ℕ} → Clean free dead → length dead′ ≡ length dead → KeptBut path v dead dead′ → Clean (free - 2 ^ lowest free) dead′
+        still-clean {dead} {dead′} clean same kept = record { long = same ∙ clean .long; none = none }
           where
-            go : Sought F (2 ^ lowest free) (lowest free) (midOf 1 k bytes) told written → Taken (graphOf p) F bytes 0 (putMid 1 k bytes written)
-            go (nowhere t b n) = nothing refl (rw b (put-same 1 k bytes)) n
-            go (found w x t b) = absurd (omega (arith, pow-pos (lowest free)))
+            rest : Part (free - 2 ^ lowest free) free
+            rest = rest-part (power-part free (lowest free) (is-low .isIn))
 
-        -- its vertices stand in front, behind the first
-        front : (ys : List ℕ) → Completes F (2 ^ lowest free) (lowest free) ys → told ≡ setOf ys + 2 ^ lowest free → written ≡ ys ++ drop (length ys) (midOf 1 k bytes) → 0 < length bytes
-            → Fronted p (lowest free ∷ ys) told (set (putMid 1 k bytes written) 0 v)
-        unfolding setOf
-        front ys w t b long = record {
-          some = omega arith;
-          apart = exchange-distinct (graphOf p) (exchange ys w);
-          below = exchange-below (graphOf p) (exchange ys w);
-          set-is = t ∙ omega arith;
-          behind = drop (length ys) (midOf 1 k bytes) ++ drop k (drop 1 bytes);
-          front = rw (low, b) (first-set bytes long);
-        }
-          where
-            first-set : (bytes : List ℕ) → 0 < length bytes → set (putMid 1 k bytes (ys ++ drop (length ys) (midOf 1 k bytes))) 0 (lowest free) ≡ (lowest free ∷ ys) ++ (drop (length ys) (midOf 1 k bytes) ++ drop k (drop 1 bytes))
-            first-set [] n = absurd (omega arith)
-            first-set (x ∷ bytes) n = rw append-assoc
+            kept-low : KeptBut (2 ^ lowest free) (lowest free) dead dead′
+            kept-low = rw (first-bit, low) at kept
 
-        pub told-lt : told ≢ 0 → 0 < length bytes → told < 2 ^ p .size
-        told-lt ne long = go sought-low
-          where
-            go : Sought F (2 ^ lowest free) (lowest free) (midOf 1 k bytes) told written → told < 2 ^ p .size
-            go (nowhere t b n) = absurd (ne t)
-            go (found {ys = ys} w x t b) = let f = front ys w t b long in rw (f .set-is) (setOf-lt (p .size) (lowest free ∷ ys) (f .apart) (f .below))
+            none : (S : ℕ) → Part S (free - 2 ^ lowest free) → 0 < S → getD dead′ S 0 ≡ 0
+            none S i some-in =
+                kept-low .same S
+                (λ k. in-without free (lowest free) (lowest free) (is-low .isIn) .0 (i .within (lowest free) (k .within (lowest free) (in-power (lowest free) (lowest free) .1 refl))) .1 refl)
+                (λ e. omega arith)
+                ∙ clean .none S (part-trans i rest) some-in
 
-        pub one-taken : told ≢ 0 → 0 < length bytes → {record′ : List ℕ} → ((xs : List ℕ) → Fronted p xs told (set (putMid 1 k bytes written) 0 v) → record′ ≡ recordOf (graphOf p) xs)
-            → Taken (graphOf p) F bytes told record′
-        one-taken ne long {record′} completed = go sought-low
-          where
-            go : Sought F (2 ^ lowest free) (lowest free) (midOf 1 k bytes) told written → Taken (graphOf p) F bytes told record′
-            go (nowhere t b n) = absurd (ne t)
-            go (found {ys = ys} w x t b) = let f = front ys w t b long in first {ys = ys} w x (f .set-is) (completed (lowest free ∷ ys) f)
+        -- ---- what it takes
+
+        module _ (k : ℕ) (bytes : List ℕ) {told : ℕ} {written : List ℕ} (sought : Sought (fieldOf (p .gives) step exchanges best) path v (midOf 1 k bytes) told written) where
+          sought-low : Sought F (2 ^ lowest free) (lowest free) (midOf 1 k bytes) told written
+          sought-low = rw (first-bit, step-is, low) at sought
+
+          pub none-taken : told ≡ 0 → Stepped (graphOf p) F bytes told (putMid 1 k bytes written)
+          none-taken z = go sought-low
+            where
+              go : Sought F (2 ^ lowest free) (lowest free) (midOf 1 k bytes) told written → Stepped (graphOf p) F bytes told (putMid 1 k bytes written)
+              go (nowhere t b n) = nothing t (rw b (put-same 1 k bytes)) n
+              go (found w x t b) = absurd (omega (arith, pow-pos (lowest free)))
+
+          -- its vertices stand in front, behind the first
+          front : (ys : List ℕ) → Completes F (2 ^ lowest free) (lowest free) ys → told ≡ setOf ys + 2 ^ lowest free → written ≡ ys ++ drop (length ys) (midOf 1 k bytes) → 0 < length bytes
+              → Fronted p (lowest free ∷ ys) told (set (putMid 1 k bytes written) 0 v)
+          unfolding setOf
+          front ys w t b long = record {
+            some = omega arith;
+            apart = exchange-distinct (graphOf p) (exchange ys w);
+            below = exchange-below (graphOf p) (exchange ys w);
+            set-is = t ∙ omega arith;
+            behind = drop (length ys) (midOf 1 k bytes) ++ drop k (drop 1 bytes);
+            front = rw (low, b) (first-set bytes long);
+          }
+            where
+              first-set : (bytes : List ℕ) → 0 < length bytes → set (putMid 1 k bytes (ys ++ drop (length ys) (midOf 1 k bytes))) 0 (lowest free) ≡ (lowest free ∷ ys) ++ (drop (length ys) (midOf 1 k bytes) ++ drop k (drop 1 bytes))
+              first-set [] n = absurd (omega arith)
+              first-set (x ∷ bytes) n = rw append-assoc
+
+          pub told-lt : told ≢ 0 → 0 < length bytes → told < 2 ^ p .size
+          told-lt ne long = go sought-low
+            where
+              go : Sought F (2 ^ lowest free) (lowest free) (midOf 1 k bytes) told written → told < 2 ^ p .size
+              go (nowhere t b n) = absurd (ne t)
+              go (found {ys = ys} w x t b) = let f = front ys w t b long in rw (f .set-is) (setOf-lt (p .size) (lowest free ∷ ys) (f .apart) (f .below))
+
+          pub one-taken : told ≢ 0 → 0 < length bytes → {record′ : List ℕ} → ((xs : List ℕ) → Fronted p xs told (set (putMid 1 k bytes written) 0 v) → record′ ≡ recordOf (graphOf p) xs)
+              → Stepped (graphOf p) F bytes told record′
+          one-taken ne long {record′} completed = go sought-low
+            where
+              go : Sought F (2 ^ lowest free) (lowest free) (midOf 1 k bytes) told written → Stepped (graphOf p) F bytes told record′
+              go (nowhere t b n) = absurd (ne t)
+              go (found {ys = ys} w x t b) = let f = front ys w t b long in first {ys = ys} w x (f .set-is) (completed (lowest free ∷ ys) f)

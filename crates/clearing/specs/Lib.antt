@@ -1,2 +1,5 @@
 pub mod Clearing
+-- what contracts promise, worked out, and explained by the claims
+pub mod computed
+-- what only inner contracts and proofs use
 pub mod inner

@@ -2,15 +2,15 @@
 use crate::step::take_exchange;
 use pool::Limits;
 use pool::Pool;
-use pool::VertexSet;
-use tables::all_givers;
+use pool::all_givers;
+use sets::VertexSet;
 ghost use mathlib.Core.Path.{_≡_};
 ghost use Prim.Native.Nat.{_-_, _*_, _^_, _≤_};
 ghost use lib.Dec.{T};
 ghost use lib.ListN.{length};
 ghost use Rattle.pool.specs.Limits.{limitsFit};
 ghost use Rattle.pool.specs.Value.{poolFits};
-ghost use Rattle.clearing.specs.Clearing.{planOf, planWritten};
+ghost use Rattle.clearing.specs.computed.Cleared.{planOf, planWritten};
 ghost use Rattle.clearing.specs.inner.Taking.{TablesHold, Choosing, Clean};
 
 // Step by step, while something can be gained from the free vertices: an exchange is taken from the lowest on, or that vertex is
@@ -30,9 +30,11 @@ fn choose(
     ensures records { λ r. ⌜ r ≡ length (planOf pool limits) ⌝ }
     ensures written { λ _. ⌜ now (plan .exit) ≡ planWritten pool limits (now (plan .entry)) ⌝ }
 {
-    let mut free = (1u16 << pool.size) - 1;
+    let size = pool.size;
+    let all = (1u16 << size) - 1;
+    let mut free = VertexSet(all);
     let mut records: usize = 0;
-    while best[free as usize] != 0 {
+    while best[free.0 as usize] != 0 {
         let at = 16 * records;
         let set = take_exchange(
             pool,
@@ -44,10 +46,12 @@ fn choose(
             dead,
             &mut plan[at..at + 16],
         );
-        if set == 0 {
-            free = VertexSet(free).without(VertexSet(free).lowest()).0;
+        let used = set.0;
+        if used == 0 {
+            free = free.without(free.lowest());
         } else {
-            free = free - set;
+            let open = free.0;
+            free = VertexSet(open - used);
             records += 1;
         }
     }

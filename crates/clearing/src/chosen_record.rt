@@ -1,9 +1,9 @@
-// The record of an exchange whose vertices are written: as in plans (members_in, kind_of, fill_up), told from the set.
+// The record of an exchange whose vertices are written: its filler, kind and members, told from the set.
 use pool::Pool;
-use pool::VertexSet;
+use sets::VertexSet;
 ghost use mathlib.Core.List.{List, [], _∷_};
 ghost use mathlib.Core.Path.{_≡_};
-ghost use Prim.Native.Nat.{ℕ, _-_, _<_, _^_};
+ghost use Prim.Native.Nat.{ℕ, _<_, _^_};
 ghost use lib.Dec.{T};
 ghost use lib.ListN.{length, replicate};
 ghost use Rattle.pool.specs.Value.{graphOf, poolFits};
@@ -19,20 +19,12 @@ const CHAIN: u8 = 67;
 
 const RING: u8 = 82;
 
-// The set of all members.
-pub(crate) fn members_of(pool: Pool) -> u16
-    requires { ⌜ T (poolFits pool) ⌝ }
-    ensures { λ r. ⌜ r ≡ 2 ^ pool .size - 2 ^ pool .altruists ⌝ }
-{
-    (1u16 << pool.size) - (1u16 << pool.altruists)
-}
-
 // The members in a set.
-pub(crate) fn members_in(pool: Pool, set: u16) -> u8
+pub(crate) fn members_in(pool: Pool, set: VertexSet) -> u8
     requires { ⌜ T (poolFits pool) ⌝ }
-    ensures { λ r. ⌜ r ≡ membersIn pool set ⌝ }
+    ensures { λ r. ⌜ r ≡ membersIn pool (set .0) ⌝ }
 {
-    VertexSet(set & members_of(pool)).size()
+    VertexSet(set.0 & pool.members().0).size()
 }
 
 // The kind of an exchange, by its first vertex.
@@ -57,13 +49,13 @@ fn fill_up(part: &mut [u8])
 }
 
 // Completes the record of an exchange whose vertices stand in front, by their set.
-pub(crate) fn complete_record(pool: Pool, set: u16, bytes: &mut [u8])
+pub(crate) fn complete_record(pool: Pool, set: VertexSet, bytes: &mut [u8])
     requires { ⌜ T (poolFits pool) ⌝ }
-    requires { ⌜ set < 2 ^ pool .size ⌝ }
+    requires { ⌜ set .0 < 2 ^ pool .size ⌝ }
     requires { ⌜ length (now bytes) ≡ 16 ⌝ }
-    ensures { λ _. ⌜ ((xs : List ℕ) → Fronted pool xs set (now (bytes .entry)) → now (bytes .exit) ≡ recordOf (graphOf pool) xs) ⌝ }
+    ensures { λ _. ⌜ ((xs : List ℕ) → Fronted pool xs (set .0) (now (bytes .entry)) → now (bytes .exit) ≡ recordOf (graphOf pool) xs) ⌝ }
 {
-    let length = VertexSet(set).size() as usize;
+    let length = set.size() as usize;
     fill_up(&mut bytes[length..14]);
     bytes[14] = kind_of(pool, bytes[0]);
     bytes[15] = members_in(pool, set);

@@ -6,11 +6,12 @@ use pool::Limits;
 use pool::Pool;
 use pool::Refusal;
 use pool::Verdict;
-use pool::read_pool;
+use reading::read_pool;
 use tables::fill_best;
 ghost use mathlib.Core.Path.{_≡_};
-ghost use Rattle.pool.specs.Refusals.{accepted, outcomeOf};
-ghost use Rattle.clearing.specs.Clearing.{clearedOutcome, clearable, clearableValue, clearOutcome, exchangesCleared, bestCleared, planCleared};
+ghost use Rattle.pool.specs.Refusals.{accepted, outcomeOf, tested};
+ghost use Rattle.clearing.specs.Clearing.{clearedOutcome, lentTests, clearable, clearableValue};
+ghost use Rattle.clearing.specs.computed.Cleared.{clearOutcome, exchangesCleared, bestCleared, planCleared};
 
 pub enum Cleared {
     // The members served, and the number of records written.
@@ -52,7 +53,7 @@ pub fn clear_value(
     ensures best { λ _. ⌜ now (best .exit) ≡ bestCleared limits (clearableValue pool limits (now (exchanges .entry)) (now (best .entry)) (now (plan .entry))) (now (best .entry)) ⌝ }
     ensures plan { λ _. ⌜ now (plan .exit) ≡ planCleared limits (clearableValue pool limits (now (exchanges .entry)) (now (best .entry)) (now (plan .entry))) (now (plan .entry)) ⌝ }
 {
-    let verdict = test_lent(pool, limits, exchanges, best, plan);
+    let verdict = test_lent(pool, limits, exchanges.len(), best.len(), plan.len());
     if let Verdict::Refused(refusal) = verdict {
         return Cleared::Refused(refusal);
     }
@@ -85,8 +86,8 @@ fn clear_accepted(
 }
 
 // Causes 6 to 10, by the lengths of what is lent.
-fn test_lent(pool: Pool, limits: Limits, exchanges: &[u16], best: &[u8], plan: &[u8]) -> Verdict
-    ensures { λ r. ⌜ outcomeOf r pool ≡ clearableValue pool limits (now (exchanges .entry)) (now (best .entry)) (now (plan .entry)) ⌝ }
+fn test_lent(pool: Pool, limits: Limits, exchanges: usize, best: usize, plan: usize) -> Verdict
+    ensures { λ r. ⌜ outcomeOf r pool ≡ tested (lentTests pool limits exchanges best plan) 0 (accepted pool) ⌝ }
 {
     let pool_verdict = pool.test();
     if let Verdict::Refused(refusal) = pool_verdict {
@@ -96,20 +97,21 @@ fn test_lent(pool: Pool, limits: Limits, exchanges: &[u16], best: &[u8], plan: &
     if let Verdict::Refused(refusal) = limits_verdict {
         return Verdict::Refused(refusal);
     }
-    let entries = 1usize << pool.size;
-    if exchanges.len() < entries {
+    let size = pool.size;
+    let entries = 1usize << size;
+    if exchanges < entries {
         return Verdict::Refused(Refusal {
             cause: Cause::ExchangeTable,
             at: 0,
         });
     }
-    if best.len() < entries {
+    if best < entries {
         return Verdict::Refused(Refusal {
             cause: Cause::BestTable,
             at: 0,
         });
     }
-    if plan.len() < 16 * (pool.size as usize) {
+    if plan < 16 * (size as usize) {
         return Verdict::Refused(Refusal {
             cause: Cause::PlanBuffer,
             at: 0,

@@ -1,18 +1,17 @@
 // One step of choosing: the exchange taken from the lowest free vertex on, written as its record.
 use crate::chosen_record::complete_record;
-use crate::chosen_record::members_of;
 use crate::seeking::Step;
 use crate::seeking::seek;
 use pool::Limits;
 use pool::Pool;
-use pool::VertexSet;
+use sets::VertexSet;
 ghost use mathlib.Core.Path.{_≡_};
 ghost use Prim.Native.Nat.{_-_, _<_, _^_};
 ghost use lib.Dec.{ltb};
 ghost use lib.ListN.{length, getD};
-ghost use Rattle.kep.specs.Sets.{lowest};
+ghost use Rattle.kep.specs.inner.Lowest.{lowest};
 ghost use Rattle.pool.specs.Value.{graphOf};
-ghost use Rattle.clearing.specs.inner.Taking.{moreBy, goalBy, Choosing, Clean, poolField, Taken};
+ghost use Rattle.clearing.specs.inner.Taking.{moreBy, goalBy, Choosing, Clean, poolField, Stepped};
 
 // The most vertices that may follow v in an exchange from it on: Lp in a chain, one less than Lc in a cycle.
 fn more_from(altruists: u8, limits: Limits, v: u8) -> u8
@@ -28,15 +27,15 @@ fn more_from(altruists: u8, limits: Limits, v: u8) -> u8
 }
 
 // The vertices at which an exchange from v on may end: any in a chain, in a cycle those that give to v.
-fn goal_from(altruists: u8, givers: &[u16], v: u8) -> u16
+fn goal_from(altruists: u8, givers: &[u16], v: u8) -> VertexSet
     requires { ⌜ v < length (now givers) ⌝ }
-    ensures { λ r. ⌜ r ≡ goalBy (ltb v altruists) (getD (now (givers .entry)) v 0) ⌝ }
+    ensures { λ r. ⌜ r .0 ≡ goalBy (ltb v altruists) (getD (now (givers .entry)) v 0) ⌝ }
 {
     if v < altruists {
-        return 65535;
+        return VertexSet(65535);
     }
     let at = v as usize;
-    givers[at]
+    VertexSet(givers[at])
 }
 
 // Takes an exchange from the lowest free vertex on if there is one with which the best can be reached: its record is written, and
@@ -48,28 +47,28 @@ pub(crate) fn take_exchange(
     givers: &[u16],
     exchanges: &[u16],
     best: &[u8],
-    free: u16,
+    free: VertexSet,
     dead: &mut [u16],
     bytes: &mut [u8],
-) -> u16
+) -> VertexSet
     requires { ⌜ Choosing pool limits (now givers) (now exchanges) (now best) ⌝ }
-    requires { ⌜ 0 < free ⌝ }
-    requires { ⌜ free < 2 ^ pool .size ⌝ }
-    requires { ⌜ Clean free (now dead) ⌝ }
+    requires { ⌜ 0 < free .0 ⌝ }
+    requires { ⌜ free .0 < 2 ^ pool .size ⌝ }
+    requires { ⌜ Clean (free .0) (now dead) ⌝ }
     requires { ⌜ length (now bytes) ≡ 16 ⌝ }
-    ensures clean { λ _. ⌜ Clean (free - 2 ^ lowest free) (now (dead .exit)) ⌝ }
-    ensures taken { λ r. ⌜ Taken (graphOf pool) (poolField pool (now (exchanges .entry)) (now (best .entry)) free) (now (bytes .entry)) r (now (bytes .exit)) ⌝ }
+    ensures clean { λ _. ⌜ Clean (free .0 - 2 ^ lowest (free .0)) (now (dead .exit)) ⌝ }
+    ensures stepped { λ r. ⌜ Stepped (graphOf pool) (poolField pool (now (exchanges .entry)) (now (best .entry)) (free .0)) (now (bytes .entry)) (r .0) (now (bytes .exit)) ⌝ }
 {
-    let first = VertexSet(free).lowest();
+    let first = free.lowest();
     let end = 1 + more_from(pool.altruists, limits, first) as usize;
     let step = Step {
         free,
-        members: members_of(pool),
+        members: pool.members(),
         goal: goal_from(pool.altruists, givers, first),
     };
     let gives = pool.gives;
-    let path = 1u16 << first;
-    let set = seek(
+    let path = VertexSet(0).with(first);
+    let found = seek(
         &gives,
         step,
         exchanges,
@@ -79,8 +78,9 @@ pub(crate) fn take_exchange(
         path,
         first,
     );
-    if set == 0 {
-        return 0;
+    let set = VertexSet(found);
+    if found == 0 {
+        return set;
     }
     bytes[0] = first;
     complete_record(pool, set, bytes);

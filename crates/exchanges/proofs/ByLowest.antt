@@ -16,15 +16,16 @@ use lib.Seq.{getD-set-same, getD-set-other}
 use lib.Pow.{pow-pos, pow-lt, pow-mono, split, shr-lt}
 use borrow.Author.Tests.{le-leb, lt-leb}
 use Rattle.kep.specs.Graph.{Graph, WellFormed}
-use Rattle.kep.specs.Sets.{has, lowest, counted}
+use Rattle.kep.specs.Sets.{has, counted}
+use Rattle.kep.specs.inner.Lowest.{lowest}
 use Rattle.kep.proofs.SetLaws.{IsLowest, lowest-is, has-below}
 use Rattle.kep.proofs.Vertices.{bit-le, in-without}
 use Rattle.kep.proofs.Operations.{one-shl}
 use Rattle.kep.proofs.LowestBit.{remainder-lowest, lowest-remainder, remainder-more, remainder-apart, ones-without, ones-add, ones-some, Jump, jump, lowest-bit}
-use Rattle.kep.specs.Table.{entry}
+use Rattle.kep.specs.computed.Table.{entry}
 use Rattle.kep.specs.inner.Filling.{ends}
 use Rattle.exchanges.specs.inner.Changed.{Changed}
-use Rattle.exchanges.specs.inner.ByLowest.{Begins, Held, Spare, Known, endsWithin, keptWithin, limitAt}
+use Rattle.exchanges.specs.inner.ByLowest.{Begins, Allowed, Next, Held, Spare, Known, endsWithin, keptWithin, limitAt}
 use Rattle.exchanges.proofs.Changed.{changed-none, changed-store, changed-over}
 use Rattle.kep.proofs.Ends.{ends-alone, ends-none}
 use Rattle.kep.proofs.EntryMeaning.{entry-empty, entry-altruist}
@@ -73,12 +74,6 @@ ones-few l n s h small b =
 
 -- ---- the next set of at most cap vertices
 
-pub record Next (l cap s next : ℕ) : Type 0 where
-  pub further : s < next
-  pub begins : Begins l next
-  pub few : ones next ≤ cap
-  pub many : (i : ℕ) → s < i → i < next → Begins l i → cap < ones i
-
 module _ {l cap s : ℕ} (b : Begins l s) (fits : ones s ≤ cap) where
   -- below the limit it is the next that begins at l
   next-step : ones s < cap → Next l cap s (s + 2 ^ suc l)
@@ -116,12 +111,6 @@ module _ {l cap s : ℕ} (b : Begins l s) (fits : ones s ≤ cap) where
       rest : s + 2 ^ v - 2 ^ l ≡ s - 2 ^ l + 2 ^ v
       rest = omega (arith, begins-le b)
 
--- a set to be looked at
-pub record Allowed (l cap s : ℕ) : Type 0 where
-  pub begins : Begins l s
-  pub more : 2 ^ l < s
-  pub fits : ones s ≤ cap
-
 -- the first, if the limit allows any
 pub first-set : {l cap n set : ℕ} → ((cap < 2) × (set ≡ n)) ⊎ ((2 ≤ cap) × (set ≡ 2 ^ l + 2 ^ suc l))
     → (set < n → Allowed l cap set) × ((i : ℕ) → 2 ^ l < i → i < set → Begins l i → cap < ones i)
@@ -132,11 +121,12 @@ first-set {l} (inr (two, e)) = rw e (
 )
 
 -- as code finds it
-pub next-is : {l cap s size first step add : ℕ} → Allowed l cap s → size ≡ ones s → first ≡ 2 ^ l → step ≡ 2 ^ suc l
-    → ((size < cap) × (add ≡ step)) ⊎ ((cap ≤ size) × (add ≡ s - first - bitAnd (s - first - 1) (s - first))) → Next l cap s (s + add)
-next-is ok k f e (inl (less, q)) = rw (q, e) (next-step (ok .begins) (ok .fits) (omega arith))
-next-is {l} {cap} {s} ok k f e (inr (full, q)) =
-    rw (q, f, lowest-bit (s - 2 ^ l) (omega (arith, ok .more))) (next-jump (ok .begins) (ok .fits) (ok .more) (omega arith))
+module _ {l cap s size first : ℕ} (f : first ≡ 2 ^ l) (k : size ≡ ones s) (ok : Allowed l cap s) where
+  pub steps : size < cap → Next l cap s (s + 2 * first)
+  steps less = let double : 2 * first ≡ 2 ^ suc l = omega arith in rw double (next-step (ok .begins) (ok .fits) (omega arith))
+
+  pub jumps : cap ≤ size → Next l cap s (s + (s - first - bitAnd (s - first - 1) (s - first)))
+  jumps full = rw (f, lowest-bit (s - 2 ^ l) (omega (arith, ok .more))) (next-jump (ok .begins) (ok .fits) (ok .more) (omega arith))
 
 pub next-allowed : {l cap s next : ℕ} → Allowed l cap s → Next l cap s next → Allowed l cap next
 next-allowed ok n = record { begins = n .begins; more = omega (arith, ok .more, n .further); fits = n .few }

@@ -6,10 +6,9 @@ use native.Mathlib.Decide.{decLt}
 use native.Mathlib.Omega.{arith}
 use lib.ListN.{length, length-append, length-drop, length-set, drop, getD, set}
 use lib.Seq.{ext-getD, getD-drop, getD-set-same, getD-set-other}
-use Rattle.kep.specs.Lists.{tabulate}
+use Rattle.kep.specs.Lists.{tabulate, writtenTo}
 use Rattle.kep.proofs.Tables.{length-tabulate, getD-tabulate, getD-after}
 use Rattle.kep.proofs.Tests.{Compared, compared, below, equal, above}
-use Rattle.tables.specs.Calls.{writtenTo}
 use Rattle.exchanges.specs.inner.Changed.{Changed}
 
 module _ {P : ℕ → Type 0} {f : ℕ → ℕ} where

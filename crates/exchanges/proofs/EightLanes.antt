@@ -13,7 +13,8 @@ use lib.Seq.{getD-set-same, getD-set-other}
 use lib.Pow.{pow-mono}
 use Rattle.kep.specs.Graph.{Graph, givers}
 use Rattle.kep.specs.Lists.{tabulate}
-use Rattle.kep.specs.Sets.{has, lowest}
+use Rattle.kep.specs.Sets.{has}
+use Rattle.kep.specs.inner.Lowest.{lowest}
 use Rattle.kep.specs.inner.Filling.{comes, ends}
 use Rattle.exchanges.specs.inner.Abreast.{bitWhere, common, Lanes}
 use Rattle.exchanges.specs.inner.ByLowest.{Known}

@@ -11,8 +11,9 @@ use lib.Count.{ones}
 use lib.Dec.{T, leb}
 use borrow.Author.Tests.{lt-ltb, le-ltb, le-leb}
 use Rattle.kep.specs.Graph.{Graph, WellFormed, givers}
-use Rattle.kep.specs.Sets.{has, lowest, counted, Part}
-use Rattle.kep.specs.Table.{entry}
+use Rattle.kep.specs.Sets.{has, counted, Part}
+use Rattle.kep.specs.inner.Lowest.{lowest}
+use Rattle.kep.specs.computed.Table.{entry}
 use Rattle.kep.specs.inner.Filling.{ends, maskAt, masked, comes}
 use Rattle.exchanges.specs.inner.ByLowest.{Begins, limitAt}
 use Rattle.kep.proofs.SetLaws.{lowest-eq, has-full}

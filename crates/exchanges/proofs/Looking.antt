@@ -9,7 +9,7 @@ use lib.Count.{trailingZeros}
 use lib.Dec.{eqb}
 use lib.ListN.{getD}
 use Rattle.pool.specs.declared.value.Pool.{Pool}
-use Rattle.kep.specs.Sets.{lowest}
+use Rattle.kep.specs.inner.Lowest.{lowest}
 use Rattle.pool.specs.Value.{graphOf}
 use Rattle.kep.specs.inner.Filling.{ends, comes}
 use Rattle.exchanges.specs.inner.ByLowest.{Prepared, Known}

@@ -1,1 +1,2 @@
+pub mod ExchangesCall
 pub mod inner

@@ -88,13 +88,15 @@ fn all_ends(pool: Pool, base: usize, eight: [u16; 8], one: u16, two: u16) -> [u1
     requires { ⌜ two ≡ giversOf (graphOf pool) 2 ⌝ }
     ensures { λ r. ⌜ r ≡ tabulate (λ j. endsOf (graphOf pool) (base + j)) 8 ⌝ }
 {
+    let e0 = eight[0];
     let e1 = eight[1];
     let e2 = eight[2];
+    let e4 = eight[4];
     let e3 = eight[3] | bit_where(e1 & one, 2);
     let e5 = eight[5] | bit_where(e1 & two, 4);
     let e6 = eight[6] | bit_where(e2 & two, 4);
     let e7 = eight[7] | bit_where(e5 & one, 2) | bit_where(e3 & two, 4);
-    [eight[0], e1, e2, e3, eight[4], e5, e6, e7]
+    [e0, e1, e2, e3, e4, e5, e6, e7]
 }
 
 // Stores eight entries, from `base` on.

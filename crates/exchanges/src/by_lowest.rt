@@ -7,18 +7,18 @@ use crate::path_ends::path_ends;
 use pool::Limits;
 use pool::Pool;
 ghost use mathlib.Core.Path.{_≡_};
-ghost use Prim.Native.Nat.{_^_, _≤_, _<_};
+ghost use Prim.Native.Nat.{ℕ, _^_, _≤_, _<_};
 ghost use lib.Count.{ones};
 ghost use lib.Dec.{leb};
 ghost use lib.ListN.{length};
 ghost use mathlib.Core.Bool.{false, _||_};
 ghost use Rattle.kep.specs.Sets.{counted};
 ghost use Rattle.pool.specs.Value.{graphOf};
-ghost use Rattle.kep.specs.Table.{entry};
+ghost use Rattle.kep.specs.computed.Table.{entry};
 ghost use Rattle.kep.specs.inner.Filling.{ends as endsOf};
-ghost use Rattle.tables.specs.Calls.{writtenTo};
+ghost use Rattle.kep.specs.Lists.{writtenTo};
 ghost use Rattle.exchanges.specs.inner.Changed.{Changed};
-ghost use Rattle.exchanges.specs.inner.ByLowest.{Prepared, Begins, Held, Spare, endsWithin, keptWithin, limitAt};
+ghost use Rattle.exchanges.specs.inner.ByLowest.{Prepared, Begins, Allowed, Next, Held, Spare, endsWithin, keptWithin, limitAt};
 
 // All entries.
 pub(crate) fn fill_by_lowest(pool: Pool, limits: Limits, givers: &[u16], table: &mut [u16])
@@ -110,8 +110,7 @@ fn fill_from(pool: Pool, limits: Limits, filled: bool, low: u8, givers: &[u16], 
     keep_ends(pool.size, low, cap, true, closing, table);
 }
 
-// Pass one for the sets that begin at `low` and have at most `cap` vertices. They are `first` and more by multiples of `step`; after
-// one of `cap` vertices, every set up to that with the lowest bit of its others added has more, and is passed over.
+// Pass one for the sets that begin at `low` and have at most `cap` vertices.
 fn fill_allowed(pool: Pool, low: u8, cap: u32, givers: &[u16], table: &mut [u16])
     requires { ⌜ Prepared pool (now givers) ⌝ }
     requires { ⌜ 2 ^ pool .size ≤ length (now table) ⌝ }
@@ -120,22 +119,30 @@ fn fill_allowed(pool: Pool, low: u8, cap: u32, givers: &[u16], table: &mut [u16]
     ensures { λ _. ⌜ Changed (Begins low) (2 ^ pool .size) (endsWithin (graphOf pool) cap) (now (table .entry)) (now (table .exit)) ⌝ }
 {
     let first = 1usize << low;
-    let step = first + first;
     let sets = 1usize << pool.size;
     // A vertex alone is a path.
     table[first] = if cap == 0 { 0 } else { first as u16 };
-    let mut set = if cap < 2 { sets } else { first + step };
+    let mut set = if cap < 2 { sets } else { 3 * first };
     while set < sets {
         let found = path_ends(pool, set, first, givers, &*table);
         table[set] = found.ends;
-        let others = set - first;
-        let rest = (others - 1) & others;
-        set += if found.size < cap {
-            step
-        } else {
-            others - rest
-        };
+        set = next_allowed(set, first, found.size, cap);
     }
+}
+
+// The next set of at most `cap` vertices that begins where `set` does. Those that begin there are `first` and more by multiples of
+// its double; after one of `cap` vertices every set up to that with the lowest bit of its others added has more, and is passed over.
+fn next_allowed(set: usize, first: usize, size: u32, cap: u32) -> usize
+    requires { ⌜ first < set ⌝ }
+    requires { ⌜ set < 2 ^ 14 ⌝ }
+    ensures { λ r. ⌜ ((l : ℕ) → first ≡ 2 ^ l → size ≡ ones set → Allowed l cap set → Next l cap set r) ⌝ }
+{
+    if size < cap {
+        return set + 2 * first;
+    }
+    let others = set - first;
+    let rest = (others - 1) & others;
+    set + (others - rest)
 }
 
 // Pass two for the sets that begin at `low`: of the ends those in the closing set, where a set has at most `cap` vertices. If larger

@@ -6,10 +6,11 @@ use pool::Limits;
 use pool::Pool;
 use pool::Refusal;
 use pool::Verdict;
+use pool::all_givers;
 use tables::Filled;
-use tables::all_givers;
 ghost use mathlib.Core.Path.{_≡_};
-ghost use Rattle.tables.specs.Calls.{filledOutcome, exchangesOutcome, exchangesLeft};
+ghost use Rattle.tables.specs.Calls.{filledOutcome};
+ghost use Rattle.exchanges.specs.ExchangesCall.{exchangesOutcome, exchangesLeft};
 
 // Fills the entries of all sets of the pool's places. Refuses by 6, 7 and 8, in that order, and then leaves the table as it was.
 pub fn fill_exchanges(pool: Pool, limits: Limits, table: &mut [u16]) -> Filled

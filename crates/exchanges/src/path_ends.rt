@@ -4,7 +4,7 @@ ghost use mathlib.Core.Path.{_≡_};
 ghost use Prim.Native.Nat.{_-_, _^_, _≤_, _<_};
 ghost use lib.ListN.{length};
 ghost use lib.Count.{ones};
-ghost use Rattle.kep.specs.Sets.{lowest};
+ghost use Rattle.kep.specs.inner.Lowest.{lowest};
 ghost use Rattle.pool.specs.Value.{graphOf};
 ghost use Rattle.kep.specs.inner.Filling.{ends as endsOf};
 ghost use Rattle.exchanges.specs.inner.ByLowest.{Prepared, Known};

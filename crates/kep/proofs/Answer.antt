@@ -7,8 +7,10 @@ use lib.Dec.{T}
 use Rattle.kep.specs.Lists.{before, flat, total, Each, none, also, distinct}
 use Rattle.kep.specs.Graph.{Graph}
 use Rattle.kep.specs.Exchange.{isExchange, headOf}
-use Rattle.kep.specs.Table.{exchanges, memberWorth}
-use Rattle.kep.specs.Plan.{Best, ZeroClause, recordForm, inOrder, recordsOf, plans, answer}
+use Rattle.kep.specs.Table.{memberWorth}
+use Rattle.kep.specs.computed.Table.{exchanges}
+use Rattle.kep.specs.Plan.{Best, ZeroClause, recordForm, inOrder, recordsOf}
+use Rattle.kep.specs.computed.Answer.{plans, answer}
 use Rattle.kep.proofs.Each.{each-map, keep-in, each-at}
 use Rattle.kep.proofs.PlanLists.{sublists-in}
 use Rattle.kep.proofs.Ordered.{rising-part}

@@ -8,7 +8,7 @@ use native.Mathlib.Omega.{arith}
 use lib.Dec.{T, eqb}
 use lib.ListN.{length}
 use borrow.Author.Tests.{eqb-true, eqb-false}
-use Rattle.kep.specs.Arrangements.{concatMap, remove, arrangements}
+use Rattle.kep.specs.computed.Arrangements.{concatMap, remove, arrangements}
 use Rattle.kep.specs.Lists.{distinct, Each, also, upto}
 use Rattle.kep.proofs.Each.{each-map, each-both}
 use Rattle.kep.proofs.ListLaws.{distinct-first, distinct-rest, upto-length, upto-in}

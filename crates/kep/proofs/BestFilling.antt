@@ -2,15 +2,17 @@
 use mathlib.Core.Bool.{Bool, true, false}
 use mathlib.Core.List.{List, _++_, List·Memᴰ}
 use mathlib.Core.Logic.{_↔_}
-use mathlib.Core.Path.{_≡_, refl, sym, ap₂, _∙_}
-use Prim.Native.Nat.{ℕ, max, _+_, _-_, _≤_, _<_}
+use mathlib.Core.Path.{_≡_, refl, sym, ap, ap₂, _∙_}
+use Prim.Native.Nat.{ℕ, zero, suc, max, _+_, _-_, _≤_, _<_}
 use native.Mathlib.Nat.{le-antisymm, zero-max, max-zero}
 use native.Mathlib.Omega.{arith}
 use lib.Bits.{bitAnd}
+use lib.ListN.{getD}
 use Rattle.kep.specs.Lists.{tabulate}
 use Rattle.kep.specs.Sets.{Part, counted}
-use Rattle.kep.specs.Table.{markedParts, greatestOf, best, Marked}
-use Rattle.kep.specs.inner.BestFilling.{offer, everyPart, looked, nextBest}
+use Rattle.kep.specs.Table.{Marked}
+use Rattle.kep.specs.computed.Table.{markedParts, greatestOf, best}
+use Rattle.kep.specs.inner.BestFilling.{offer, bestOffered, everyPart, looked, nextBest}
 use Rattle.kep.proofs.Tests.{from-true, is-true}
 use Rattle.kep.proofs.Parts.{part-refl, part-le, rest-part}
 use Rattle.kep.proofs.Down.{partsFrom, partsDown, from-step, step-part, from-none, in-parts}
@@ -77,13 +79,32 @@ module _ (v : ℕ → ℕ) (m : ℕ → Bool) (s : ℕ) where
       (greatest-least (tried v m s) (everyPart s) (best v m s) (λ t i. let (p, h) = in-every s t .0 i in tried-le p h))
       (rw (best-step v m s) (greatest-least (λ t. v t + best v m (s - t)) (markedParts m s) (greatestOf (tried v m s) (everyPart s)) (λ t i. marked-tried (in-marked m s t .0 i))))
 
-  -- so the entry is found in the table of what is offered and in the entries before it
-  pub next-best : (k : ℕ) (left behind : List ℕ) {offers table : List ℕ} → s < k → offers ≡ tabulate (offer v m) k ++ left → table ≡ tabulate (best v m) s ++ behind
-      → nextBest offers table s ≡ best v m s
-  unfolding nextBest
-  next-best k left behind {offers} {table} l e f =
-      greatest-same (looked offers table s) (tried v m s) (everyPart s) (everyPart s) (λ t i. let (p, h) = in-every s t .0 i in (i, same t p (part-le h))) (λ t i. i)
-      ∙ tried-best
-    where
-      same : (t : ℕ) → 0 < t → t ≤ s → looked offers table s t ≡ tried v m s t
-      same t p h = rw (e, f) (ap₂ _+_ (getD-tabulate (offer v m) k t left (omega arith)) (getD-tabulate (best v m) s (s - t) behind (omega arith)))
+-- so the entry is found in the table of what is offered and in the entries before it
+pub next-best : (s : ℕ) (offers behind : List ℕ) {table : List ℕ} → table ≡ tabulate (bestOffered offers) s ++ behind → nextBest offers table s ≡ bestOffered offers s
+unfolding nextBest offer
+next-best s offers behind {table} e =
+    greatest-same (looked offers table s) (tried (λ t. getD offers t 0) (λ _. true) s) (everyPart s) (everyPart s)
+    (λ t i. let (p, h) = in-every s t .0 i in (i, same t p (part-le h)))
+    (λ t i. i)
+    ∙ tried-best (λ t. getD offers t 0) (λ _. true) s
+  where
+    same : (t : ℕ) → 0 < t → t ≤ s → looked offers table s t ≡ getD offers t 0 + bestOffered offers (s - t)
+    same t p h = rw e (ap (λ x. getD offers t 0 + x) (getD-tabulate (bestOffered offers) s (s - t) behind (omega arith)))
+
+-- and where each set offers its worth if it is marked, that is the best
+pub offered-best : (v : ℕ → ℕ) (m : ℕ → Bool) (k : ℕ) (left : List ℕ) {offers : List ℕ} → offers ≡ tabulate (offer v m) k ++ left
+    → (s : ℕ) → s < k → bestOffered offers s ≡ best v m s
+unfolding offer
+offered-best v m k left {offers} e s l = go (suc s) s (omega arith) l
+  where
+    go : (fuel s : ℕ) → s < fuel → s < k → bestOffered offers s ≡ best v m s
+    go zero s f l = absurd (omega arith)
+    go (suc fuel) s f l =
+        sym (tried-best (λ t. getD offers t 0) (λ _. true) s)
+        ∙ greatest-same (tried (λ t. getD offers t 0) (λ _. true) s) (tried v m s) (everyPart s) (everyPart s)
+        (λ t i. let (p, h) = in-every s t .0 i in (i, same t (part-le h) (go fuel (s - t) (omega (arith, part-le h)) (omega arith))))
+        (λ t i. i)
+        ∙ tried-best v m s
+      where
+        same : (t : ℕ) → t ≤ s → bestOffered offers (s - t) ≡ best v m (s - t) → getD offers t 0 + bestOffered offers (s - t) ≡ offer v m t + best v m (s - t)
+        same t h rest = ap₂ _+_ (ap (λ os. getD os t 0) e ∙ getD-tabulate (offer v m) k t left (omega arith)) rest

@@ -7,7 +7,8 @@ use lib.Dec.{T}
 use Rattle.kep.specs.Lists.{Each, distinct, total, none, also, flat}
 use Rattle.kep.specs.Graph.{Graph}
 use Rattle.kep.specs.Sets.{has, worthOf, setOf, Part}
-use Rattle.kep.specs.Table.{Family, marks, bestOf, everything}
+use Rattle.kep.specs.Table.{Family}
+use Rattle.kep.specs.computed.Table.{marks, bestOf, everything}
 use Rattle.kep.specs.Plan.{Best}
 use Rattle.kep.proofs.Each.{each-at, each-append, each-map}
 use Rattle.kep.proofs.ListLaws.{distinct-append}

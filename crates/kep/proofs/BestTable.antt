@@ -10,7 +10,8 @@ use lib.Dec.{eqb, eqb→eq, T}
 use lib.ListN.{length}
 use Rattle.kep.specs.Lists.{keep, upto, nil, cons, Pairwise, total}
 use Rattle.kep.specs.Sets.{Part, Disjoint, worthOf}
-use Rattle.kep.specs.Table.{markedParts, Marked, Family, most, greatestOf, best}
+use Rattle.kep.specs.Table.{Marked, Family}
+use Rattle.kep.specs.computed.Table.{markedParts, most, greatestOf, best}
 use Rattle.kep.proofs.Tests.{and-left, and-right, and-both, eq→eqb}
 use Rattle.kep.proofs.Each.{keep-out, keep-in, each-of, each-at}
 use Rattle.kep.proofs.ListLaws.{upto-out, upto-in}

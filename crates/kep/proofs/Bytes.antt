@@ -2,12 +2,13 @@
 -- vertex, and a list comes before its own beginning; the bytes of records are in the same order.
 use mathlib.Core.Bool.{true, false, true≢false}
 use mathlib.Core.List.{List, _∷_, _++_, [], append-nil, append-assoc}
-use mathlib.Core.Path.{_≡_, refl, sym, _∙_}
+use mathlib.Core.Path.{_≡_, refl, sym, _∙_, ap}
 use Prim.Native.Nat.{_-_, ℕ, _<_, suc, zero, _≤_}
 use native.Mathlib.Nat.{sub-zero, suc-sub-suc}
 use native.Mathlib.Omega.{arith}
 use lib.Dec.{T}
-use lib.ListN.{replicate, length, length-append, length-replicate}
+use lib.ListN.{replicate, length, getD, drop, length-append, length-replicate, drop-of-length-le}
+use lib.Seq.{drop-cons}
 use borrow.Author.Tests.{lt-ltb, le-ltb, eq-eqb, ne-eqb}
 use Rattle.kep.specs.Lists.{before, Each}
 use Rattle.kep.specs.Graph.{Graph}
@@ -116,11 +117,15 @@ pub data _◁_ : List ℕ → List ℕ → Type 0 where
 unfoldable pub padded : ℕ → ℕ → List ℕ → List ℕ
 padded width filler xs = xs ++ replicate (width - length xs) filler
 
-padded-nil : (k c : ℕ) → padded (suc k) c [] ≡ c ∷ padded k c []
+pub padded-length : (k c : ℕ) (xs : List ℕ) → length xs ≤ k → length (padded k c xs) ≡ k
+unfolding padded
+padded-length k c xs h = simp (length-append, length-replicate) (omega arith)
+
+pub padded-nil : (k c : ℕ) → padded (suc k) c [] ≡ c ∷ padded k c []
 unfolding padded
 padded-nil k c = simp sub-zero
 
-padded-cons : (k c x : ℕ) (xs : List ℕ) → padded (suc k) c (x ∷ xs) ≡ x ∷ padded k c xs
+pub padded-cons : (k c x : ℕ) (xs : List ℕ) → padded (suc k) c (x ∷ xs) ≡ x ∷ padded k c xs
 unfolding padded
 padded-cons k c x xs = rw suc-sub-suc
 
@@ -161,3 +166,9 @@ module _ (g : Graph) where
   pub record-length : (xs : List ℕ) → length xs ≤ 14 → length (recordOf g xs) ≡ 16
   unfolding recordOf
   record-length xs l = simp (length-append, length-replicate) (omega arith)
+
+-- the two bytes of a record behind its vertices
+pub last-two : (bytes : List ℕ) → length bytes ≡ 16 → drop 14 bytes ≡ getD bytes 14 0 ∷ getD bytes 15 0 ∷ []
+last-two bytes e =
+    let end : drop 16 bytes ≡ [] = drop-of-length-le bytes {i = 16} (omega arith) in
+    drop-cons bytes 14 0 (omega arith) ∙ ap (λ l. getD bytes 14 0 ∷ l) (drop-cons bytes 15 0 (omega arith) ∙ ap (λ l. getD bytes 15 0 ∷ l) end)

@@ -10,7 +10,8 @@ use lib.ListN.{length, length-append}
 use Rattle.kep.specs.Lists.{flat, Each, none, also, Pairwise, distinct, cons, nil}
 use Rattle.kep.specs.Graph.{Graph}
 use Rattle.kep.specs.Sets.{has, Part, setOf}
-use Rattle.kep.specs.Table.{lowestFirst, everything}
+use Rattle.kep.specs.Table.{lowestFirst}
+use Rattle.kep.specs.computed.Table.{everything}
 use Rattle.kep.specs.Exchange.{headOf}
 use Rattle.kep.specs.Plan.{inOrder}
 use Rattle.kep.proofs.Each.{each-append, each-map, each-first, each-append-left, each-at, each-rest, each-of, each-both}
@@ -32,7 +33,7 @@ unfolding flat
 flat-each none = none
 flat-each (also h hs) = each-append h (flat-each hs)
 
-flat-length : {p : List (List ℕ)} → Each (λ x. 1 ≤ length x) p → length p ≤ length (flat p)
+pub flat-length : {p : List (List ℕ)} → Each (λ x. 1 ≤ length x) p → length p ≤ length (flat p)
 unfolding flat
 flat-length none = omega arith
 flat-length (also {x = x} {xs = p} h hs) = omega (arith, length-append x (flat p), flat-length hs)

@@ -8,7 +8,7 @@ use native.Mathlib.Omega.{arith}
 use lib.Dec.{T, ltb}
 use borrow.Author.Tests.{ltb-true, ltb-false}
 use Rattle.kep.specs.Lists.{before, Each, none, also}
-use Rattle.kep.specs.Plan.{better, pick}
+use Rattle.kep.specs.computed.Answer.{better, pick}
 use Rattle.kep.proofs.Each.{each-map}
 use Rattle.kep.proofs.Bytes.{before-refl, before-trans, before-other}
 

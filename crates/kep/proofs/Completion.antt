@@ -1,6 +1,6 @@
 -- The first good exchange by paths that go on. A path from the lowest free vertex on is known by the set S of its vertices and its
--- last vertex u. The walk that always goes on to the lowest next vertex from which the path can be completed to a good exchange,
--- and stops only where there is none, gives the good exchange that comes first.
+-- last vertex u. The leftmost way, always on to the lowest next vertex from which the path can be completed to a good exchange and
+-- ending only where there is none, gives the good exchange that comes first.
 use mathlib.Core.List.{List, [], _∷_}
 use mathlib.Core.Logic.{_↔_, _⊎_, inl, inr, ⊎-elim, _≢_}
 use mathlib.Core.Path.{_≡_, sym, refl}
@@ -11,8 +11,9 @@ use Rattle.kep.specs.Lists.{distinct, Each, also, none}
 use Rattle.kep.specs.Graph.{Graph}
 use Rattle.kep.specs.Exchange.{walk, lastOf}
 use Rattle.kep.specs.Sets.{has, worthOf, setOf, Part}
-use Rattle.kep.specs.Table.{bestOf, entry, CanEnd, lowestFirst}
-use Rattle.kep.specs.inner.Paths.{Field, Next, Completes, Completable, Walk, stop, go-on}
+use Rattle.kep.specs.Table.{CanEnd, lowestFirst}
+use Rattle.kep.specs.computed.Table.{bestOf, entry}
+use Rattle.kep.specs.inner.Paths.{Field, Next, Completes, Completable, Leftmost, stop, go-on}
 use Rattle.kep.proofs.Tests.{above, compared, Compared, below, equal}
 use Rattle.kep.proofs.Each.{each-map, each-first, each-both, each-rest}
 use Rattle.kep.proofs.ListLaws.{distinct-more, distinct-first, distinct-rest}
@@ -25,13 +26,13 @@ use Rattle.kep.proofs.EntryMeaning.{end-told, entry-ends}
 use Rattle.kep.proofs.Bytes.{lower, _◁_, longer, next}
 use Rattle.kep.proofs.Greedy.{Good, told-worth, FirstGood, NoneGood}
 
--- ---- the list walked comes first: going on comes before ending, and a lower vertex before a higher
+-- ---- the leftmost way comes first: going on comes before ending, and a lower vertex before a higher
 
-walk-first : {f : Field} {S u : ℕ} {ys : List ℕ} (zs : List ℕ) → Walk f S u ys → Completes f S u zs → (ys ≡ zs) ⊎ (ys ◁ zs)
-walk-first [] (stop nothing) c = inl refl
-walk-first (x ∷ zs) (stop nothing) c = absurd (nothing x (c .0) (zs, c .1))
-walk-first [] (go-on n least rest) c = inr longer
-walk-first {f} {S} (x ∷ zs) (go-on {v = v} {ys = ys} n least rest) c = go (λ d. walk-first zs rest d) (compared v x)
+leftmost-first : {f : Field} {S u : ℕ} {ys : List ℕ} (zs : List ℕ) → Leftmost f S u ys → Completes f S u zs → (ys ≡ zs) ⊎ (ys ◁ zs)
+leftmost-first [] (stop nothing) c = inl refl
+leftmost-first (x ∷ zs) (stop nothing) c = absurd (nothing x (c .0) (zs, c .1))
+leftmost-first [] (go-on n least rest) c = inr longer
+leftmost-first {f} {S} (x ∷ zs) (go-on {v = v} {ys = ys} n least rest) c = go (λ d. leftmost-first zs rest d) (compared v x)
   where
     join : (ys ≡ zs) ⊎ (ys ◁ zs) → v ≡ x → (v ∷ ys ≡ x ∷ zs) ⊎ (v ∷ ys ◁ x ∷ zs)
     join (inl r) e = inl (cc)
@@ -166,9 +167,9 @@ module _ (g : Graph) (lc lp : ℕ) (w : ℕ → ℕ) {f : Field} (means : Means 
               exact = rw (told-worth g lc lp w told) at (m .exact);
             }
 
-  -- the lowest free vertex can be completed: the walk from it gives the first good exchange; if it cannot, there is none
-  pub walk-first-good : {l : ℕ} {ys : List ℕ} → IsLowest U l → Completes f (2 ^ l) l ys → Walk f (2 ^ l) l ys → FirstGood g lc lp w U l ys
-  walk-first-good {ys = ys} low c walk = record { good = good-iff low ys .1 c; first = λ zs good. walk-first zs walk (good-iff low zs .0 good) }
+  -- the lowest free vertex can be completed: the leftmost way from it gives the first good exchange; if it cannot, there is none
+  pub leftmost-first-good : {l : ℕ} {ys : List ℕ} → IsLowest U l → Completes f (2 ^ l) l ys → Leftmost f (2 ^ l) l ys → FirstGood g lc lp w U l ys
+  leftmost-first-good {ys = ys} low c way = record { good = good-iff low ys .1 c; first = λ zs good. leftmost-first zs way (good-iff low zs .0 good) }
 
   pub none-good : {l : ℕ} → IsLowest U l → (Completable f (2 ^ l) l → ⊥) → NoneGood g lc lp w U l
   none-good low cannot ys good = cannot (ys, good-iff low ys .0 good)

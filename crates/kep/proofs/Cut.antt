@@ -1,11 +1,11 @@
 -- Bytes cut into records.
 use mathlib.Core.List.{List, [], _∷_}
 use mathlib.Core.Path.{_≡_, refl, ap, sym, _∙_}
-use Prim.Native.Nat.{ℕ, zero, suc, _+_, _-_, _*_, _<_}
+use Prim.Native.Nat.{ℕ, zero, suc, _+_, _-_, _*_, _≤_, _<_}
 use native.Mathlib.Nat.{mul-suc, mul-zero}
 use native.Mathlib.Omega.{arith}
-use lib.ListN.{length, getD, take, drop}
-use lib.Seq.{drop-drop}
+use lib.ListN.{length, getD, take, drop, length-drop}
+use lib.Seq.{drop-drop, length-take-le}
 use Rattle.kep.specs.Lists.{cut}
 
 pub length-cut : (w k : ℕ) (bytes : List ℕ) → length (cut w k bytes) ≡ k
@@ -35,3 +35,14 @@ cut-from w n i bytes h =
 pub cut-none : (w n i : ℕ) (bytes : List ℕ) → n - i ≡ 0 → cut w (n - i) bytes ≡ []
 unfolding cut
 cut-none w n i bytes e = ap (λ k. cut w k bytes) e
+
+-- record i as code lends it, a part from w * i on, and its length where it stands there
+pub part : (w i : ℕ) (bytes : List ℕ) → take (w * i + w - w * i) (drop (w * i) bytes) ≡ take w (drop (w * i) bytes)
+part w i bytes = let width : w * i + w - w * i ≡ w = omega arith in ap (λ k. take k (drop (w * i) bytes)) width
+
+-- which is record i
+pub record-part : (w n i : ℕ) (bytes : List ℕ) → i < n → take (w * i + w - w * i) (drop (w * i) bytes) ≡ getD (cut w n bytes) i []
+record-part w n i bytes h = part w i bytes ∙ sym (getD-cut w n i bytes h)
+
+pub part-length : (w i : ℕ) (bytes : List ℕ) → w * suc i ≤ length bytes → length (take w (drop (w * i) bytes)) ≡ w
+part-length w i bytes h = length-take-le w (drop (w * i) bytes) (omega (arith, length-drop (w * i) bytes, mul-suc w i))

@@ -2,7 +2,7 @@
 use mathlib.Core.Bool.{Bool, true, false}
 use mathlib.Core.List.{List, _∷_, map, [], List·Memᴰ, List·Memᴰ·head, List·Memᴰ·tail, _++_, Sublistᴰ, Sublistᴰ·slnil, Sublistᴰ·cons, Sublistᴰ·cons-cons}
 use mathlib.Core.Path.{ap, refl, _≡_}
-use Prim.Native.Nat.{suc, _≤_}
+use Prim.Native.Nat.{suc, _+_, _≤_}
 use native.Mathlib.Omega.{arith}
 use lib.Dec.{T}
 use lib.ListN.{length}
@@ -75,6 +75,18 @@ module _ {A : Type 0} (p : A → Bool) where
       go : (b : Bool) → p x ≡ b → length (keep p (x ∷ xs)) ≤ suc (length (keep p xs))
       go true e = rw (keep-yes x xs e) (omega arith)
       go false e = rw (keep-no x xs e) (omega arith)
+
+  -- as many more as one thing brings
+  pub keep-more : (x : A) (xs : List A) → length (keep p (xs ++ (x ∷ []))) ≡ length (keep p (x ∷ [])) + length (keep p xs)
+  unfolding keep
+  keep-more x [] = omega arith
+  keep-more x (y ∷ ys) = go (p y) (keep-more x ys)
+    where
+      go : (b : Bool) → length (keep p (ys ++ (x ∷ []))) ≡ length (keep p (x ∷ [])) + length (keep p ys)
+          → length {A = A} (elim b as (λ _. List A) [ true ↦ y ∷ keep p (ys ++ (x ∷ [])) | false ↦ keep p (ys ++ (x ∷ [])) ])
+          ≡ length (keep p (x ∷ [])) + length {A = A} (elim b as (λ _. List A) [ true ↦ y ∷ keep p ys | false ↦ keep p ys ])
+      go true ih = omega arith
+      go false ih = ih
 
   -- so no more are kept than there were
   pub keep-length : (xs : List A) → length (keep p xs) ≤ length xs

@@ -11,7 +11,8 @@ use lib.Dec.{T, eqb}
 use lib.Pow.{pow-pos}
 use borrow.Author.Tests.{eq-eqb, ne-eqb}
 use Rattle.kep.specs.Graph.{Graph, WellFormed, givers}
-use Rattle.kep.specs.Sets.{has, lowest}
+use Rattle.kep.specs.Sets.{has}
+use Rattle.kep.specs.inner.Lowest.{lowest}
 use Rattle.kep.specs.inner.Filling.{comes, endsBelow, ends, nextEnds}
 use Rattle.kep.proofs.Tests.{differ-iff}
 use Rattle.kep.proofs.SetLaws.{lowest-is, lowest-eq, nonempty}

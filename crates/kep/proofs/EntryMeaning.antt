@@ -11,7 +11,8 @@ use Rattle.kep.specs.Lists.{keep}
 use Rattle.kep.specs.Graph.{Graph}
 use Rattle.kep.specs.Exchange.{lastOf, isExchange, turned}
 use Rattle.kep.specs.Sets.{setOf, has}
-use Rattle.kep.specs.Table.{some, endsAt, exchanges, CanEnd, entry, marks}
+use Rattle.kep.specs.Table.{CanEnd}
+use Rattle.kep.specs.computed.Table.{some, endsAt, exchanges, entry, marks}
 use Rattle.kep.proofs.Tests.{and-iff, eq→eqb, and-both, differ-iff}
 use Rattle.kep.proofs.Each.{keep-out, keep-in, each-at}
 use Rattle.kep.proofs.SetLaws.{some-bit, not-in-empty}

@@ -11,6 +11,7 @@ use lib.Dec.{T, leb→le, le→leb, ltb→lt, lt→ltb}
 use lib.ListN.{length, length-append}
 use Rattle.kep.specs.Lists.{Each, distinct, also, total, none}
 use Rattle.kep.specs.Graph.{Graph, isMember}
+use Rattle.kep.specs.Plan.{FitRecords}
 use Rattle.kep.specs.Exchange.{walk, lastOf, isCycle, isChain, isExchange, turned}
 use Rattle.kep.specs.Sets.{setOf}
 use Rattle.kep.specs.Table.{memberWorth, lowestFirst, served}
@@ -59,7 +60,7 @@ module _ (g : Graph) where
     closes = search (and-left, and-right);
   }
 
-  cycle-of : {lc : ℕ} {x : ℕ} {xs : List ℕ} → Cycle g lc x xs → T (isCycle g lc (x ∷ xs))
+  pub cycle-of : {lc : ℕ} {x : ℕ} {xs : List ℕ} → Cycle g lc x xs → T (isCycle g lc (x ∷ xs))
   unfolding isCycle
   cycle-of {lc} {x} {xs} c =
       let short = le→leb (suc (length xs)) lc (c .short) in
@@ -122,7 +123,7 @@ module _ (g : Graph) where
   member-between x h = (leb→le (g .altruists) x (search and-left), ltb→lt x (g .size) (search and-right))
 
   -- a chain's altruist is lower than its members
-  chain-lowest : {lp x : ℕ} {xs : List ℕ} → Chain g lp x xs → Each (λ y. x < y) xs
+  pub chain-lowest : {lp x : ℕ} {xs : List ℕ} → Chain g lp x xs → Each (λ y. x < y) xs
   chain-lowest {x = x} c = each-map (λ y m. omega (arith, c .altruist, member-between y m)) (c .members)
 
   chain-below : {lp x : ℕ} {xs : List ℕ} → Chain g lp x xs → Each (λ y. y < g .size) (x ∷ xs)
@@ -142,6 +143,11 @@ module _ (g : Graph) where
   unfolding total
   members-serve none h = absurd (omega arith)
   members-serve (also {x = x} m ms) h = omega (arith, member-worth x m)
+
+  pub members-served : {xs : List ℕ} → Each (Member g) xs → served g xs ≡ length xs
+  unfolding total
+  members-served none = refl
+  members-served (also {x = x} m ms) = omega (arith, member-worth x m, members-served ms)
 
   served-more : (x : ℕ) (xs : List ℕ) → served g xs ≤ served g (x ∷ xs)
   unfolding total
@@ -230,11 +236,11 @@ module _ (g : Graph) where
           member v m (inl e) = absurd (each-at (distinct-first x ys d) m (sym e))
           member v m (inr n) = each-at (c .members) n
 
--- ---- every exchange fits into a record: it has at most 14 vertices, and they are below the filler
-pub record FitRecords (g : Graph) (lc lp : ℕ) : Type 0 where
-  pub few : {xs : List ℕ} → Exchange g lc lp xs → length xs ≤ 14
-  pub below-filler : g .size ≤ 255
+-- ---- every exchange fits into a record
+
+pub fits-few : {g : Graph} {lc lp : ℕ} → FitRecords g lc lp → {xs : List ℕ} → Exchange g lc lp xs → length xs ≤ 14
+fits-few {g} fit {xs} x = fit .few xs (exchange-is g x)
 
 -- as in every graph of at most 14 vertices
 pub small-fits : {g : Graph} {lc lp : ℕ} → g .size ≤ 14 → FitRecords g lc lp
-small-fits {g} small = record { few = λ x. omega (arith, exchange-length g x); below-filler = omega arith }
+small-fits {g} {lc} {lp} small = record { few = λ xs t. omega (arith, exchange-length g (is-exchange g lc lp xs t)); below-filler = omega arith }

@@ -48,12 +48,12 @@ module _ (g : Graph) (lc lp : ℕ) where
 
   module _ (wf : WellFormed g) where
     -- who is given to is a member
-    taker : (u v : ℕ) → T (g .arc u v) → Member g v
+    pub taker : (u v : ℕ) → T (g .arc u v) → Member g v
     taker u v a =
         and-both (leb (g .altruists) v) (ltb v (g .size)) (le→leb (g .altruists) v (wf .taker-above u v a)) (lt→ltb v (g .size) (wf .taker-below u v a))
 
     -- so all but the first of a walk are members
-    walk-members : (x : ℕ) (xs : List ℕ) → T (walk g x xs) → Each (Member g) xs
+    pub walk-members : (x : ℕ) (xs : List ℕ) → T (walk g x xs) → Each (Member g) xs
     walk-members x [] w = none
     walk-members x (y ∷ ys) w = let (a, r) = walk-iff g x y ys .0 w in also (taker x y a) (walk-members y ys r)
 

@@ -6,7 +6,7 @@ use Prim.Native.Nat.{ℕ, _≤_, max}
 use native.Mathlib.Decide.{decLe}
 use native.Mathlib.Nat.{le-max-left, max-le, max-eq-left, le-antisymm}
 use native.Mathlib.Omega.{arith}
-use Rattle.kep.specs.Table.{greatestOf}
+use Rattle.kep.specs.computed.Table.{greatestOf}
 
 -- it is at least each of the values
 pub greatest-bound : (f : ℕ → ℕ) (xs : List ℕ) (x : ℕ) → List·Memᴰ x xs → f x ≤ greatestOf f xs

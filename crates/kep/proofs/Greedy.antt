@@ -8,9 +8,10 @@ use lib.Dec.{T}
 use Rattle.kep.specs.Lists.{total, distinct, none, Each, flat, before}
 use Rattle.kep.specs.Graph.{Graph}
 use Rattle.kep.specs.Sets.{worthOf, setOf, Part, has, Disjoint}
-use Rattle.kep.specs.Table.{bestOf, Marked, marks, everything}
+use Rattle.kep.specs.Table.{Marked}
+use Rattle.kep.specs.computed.Table.{bestOf, marks, everything}
 use Rattle.kep.specs.Exchange.{headOf}
-use Rattle.kep.specs.Plan.{inOrder, recordsOf, Best, recordForm}
+use Rattle.kep.specs.Plan.{inOrder, recordsOf, Best, recordForm, FitRecords}
 use Rattle.kep.proofs.Tests.{below, compared, Compared, equal, above}
 use Rattle.kep.proofs.Each.{each-first, each-map, each-both}
 use Rattle.kep.proofs.SetLaws.{nonempty, IsLowest}
@@ -20,7 +21,7 @@ use Rattle.kep.proofs.SetOf.{has-setOf, part-setOf}
 use Rattle.kep.proofs.Worth.{list-worth, total-append}
 use Rattle.kep.proofs.BestTable.{best-with, best-avoids, best-choice}
 use Rattle.kep.proofs.Walks.{first-lowest}
-use Rattle.kep.proofs.ExchangeFacts.{Told, exchange-distinct, exchange-below, exchange-member, exchange-some, FitRecords}
+use Rattle.kep.proofs.ExchangeFacts.{Told, exchange-distinct, exchange-below, exchange-member, exchange-some, fits-few}
 use Rattle.kep.proofs.EntryMeaning.{told-marked, marked-told}
 use Rattle.kep.proofs.Bytes.{_◁_, _≺_, records-order, lower, next, records-same, ≺-before}
 use Rattle.kep.proofs.InOrder.{each-heads, in-order-total}
@@ -103,7 +104,7 @@ module _ (g : Graph) (lc lp : ℕ) (w : ℕ → ℕ) where
   pub leads-start : (U : ℕ) → Leads U [] U
   leads-start U p c = c
 
-  -- a round that leaves the vertex out, one that takes an exchange, and the end
+  -- a step that leaves the vertex out, one that takes an exchange, and the end
   pub leads-skip : {U W f : ℕ} (made : List (List ℕ)) → IsLowest W f → NoneGood W f → Leads U made W → Leads U made (W - 2 ^ f)
   leads-skip made low nothing l p c = l p (skip low nothing c)
 
@@ -238,7 +239,7 @@ module _ (g : Graph) (lc lp : ℕ) (w : ℕ → ℕ) where
   module _ (fit : FitRecords g lc lp) where
     -- a record has room for an exchange, and its vertices are below the filler
     told-before : {x y : List ℕ} (p q : List (List ℕ)) → Told g lc lp x → x ◁ y → recordsOf g (x ∷ p) ≺ recordsOf g (y ∷ q)
-    told-before p q t r = records-order g p q (fit .few (t .0)) (each-map (λ v h. omega (arith, fit .below-filler)) (exchange-below g (t .0))) r
+    told-before p q t r = records-order g p q (fits-few fit (t .0)) (each-map (λ v h. omega (arith, fit .below-filler)) (exchange-below g (t .0))) r
 
     -- an optimal plan begins with the exchange taken and goes on as an optimal plan of what is left, or it comes later, whatever is
     -- put behind the exchange taken

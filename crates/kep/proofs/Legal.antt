@@ -4,11 +4,12 @@ use mathlib.Core.List.{List, _∷_, [], append-nil, Permᴰ·symm}
 use mathlib.Core.Path.{_≡_}
 use Prim.Native.Nat.{ℕ}
 use lib.Dec.{T}
-use Rattle.kep.specs.Lists.{flat, sublists, Each, none, also, distinct, Pairwise}
+use Rattle.kep.specs.Lists.{flat, Each, none, also, distinct, Pairwise}
+use Rattle.kep.specs.computed.Answer.{sublists, plans}
 use Rattle.kep.specs.Graph.{Graph}
 use Rattle.kep.specs.Exchange.{isExchange}
-use Rattle.kep.specs.Table.{exchanges}
-use Rattle.kep.specs.Plan.{isLegal, allExchanges, inOrder, plans}
+use Rattle.kep.specs.computed.Table.{exchanges}
+use Rattle.kep.specs.Plan.{isLegal, allExchanges, inOrder}
 use Rattle.kep.proofs.Tests.{if-and, and-left, and-right, and-both}
 use Rattle.kep.proofs.Each.{each-map, each-part, keep-part, keep-each, each-of, each-both}
 use Rattle.kep.proofs.PlanLists.{sublists-each}

@@ -5,6 +5,8 @@ pub mod ListLaws
 pub mod Permutations
 pub mod Tables
 pub mod Cut
+pub mod WholeRecords
+pub mod Rest
 -- sets as numbers
 pub mod SetLaws
 pub mod Parts
@@ -16,7 +18,6 @@ pub mod Operations
 pub mod SetLoops
 pub mod LowestBit
 pub mod Sifting
-pub mod MachineBits
 -- exchanges and the exchange table
 pub mod Walks
 pub mod Rotations
@@ -41,8 +42,11 @@ pub mod Legal
 pub mod Choice
 pub mod Answer
 pub mod OneForm
+pub mod Retelling
+pub mod FormStarts
 -- the first plan, chosen exchange by exchange
 pub mod Canonical
 pub mod Greedy
 pub mod Completion
 pub mod BestPlan
+pub mod FewExchanges

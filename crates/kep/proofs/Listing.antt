@@ -6,10 +6,11 @@ use mathlib.Core.Path.{_≡_, refl}
 use Prim.Native.Nat.{ℕ, _≤_, _<_, zero, suc}
 use native.Mathlib.Omega.{arith}
 use Rattle.kep.specs.Lists.{Each, Pairwise, none, nil, also, cons, upto, keep}
-use Rattle.kep.specs.Arrangements.{concatMap, arrangements, remove}
+use Rattle.kep.specs.computed.Arrangements.{concatMap, arrangements, remove}
 use Rattle.kep.specs.Graph.{Graph}
 use Rattle.kep.specs.Exchange.{isExchange, headOf}
-use Rattle.kep.specs.Table.{exchanges, lowestFirst}
+use Rattle.kep.specs.Table.{lowestFirst}
+use Rattle.kep.specs.computed.Table.{exchanges}
 use Rattle.kep.proofs.Tests.{and-iff, and-both}
 use Rattle.kep.proofs.Each.{each-map, each-append, each-of, each-any, each-mapped, keep-part, keep-out, keep-in}
 use Rattle.kep.proofs.ListLaws.{upto-out}

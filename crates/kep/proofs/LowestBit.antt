@@ -9,7 +9,8 @@ use lib.Bits.{bitAnd, and-mask, and-comm}
 use lib.Count.{ones, ones-cat, trailingZeros}
 use lib.Dec.{T, eqb→eq}
 use lib.Pow.{pow-mono, pow-pos, pow-add, split, low, mod-pow-add}
-use Rattle.kep.specs.Sets.{has, lowest, Part, sizeBelow}
+use Rattle.kep.specs.Sets.{has, Part, sizeBelow}
+use Rattle.kep.specs.inner.Lowest.{lowest}
 use Rattle.kep.proofs.Tests.{and-left, and-both}
 use Rattle.kep.proofs.SetLaws.{IsLowest, some-bit, below-pow, has-below, has-full, lowest-is, lowest-eq, trailing-lowest}
 use Rattle.kep.proofs.Parts.{has-and, part-le, part-refl, rest-part, and-part}

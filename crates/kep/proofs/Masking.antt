@@ -10,8 +10,10 @@ use lib.Dec.{leb, T}
 use lib.ListN.{length}
 use Rattle.kep.specs.Graph.{Graph, isAltruist, WellFormed, givers}
 use Rattle.kep.specs.Exchange.{lastOf}
-use Rattle.kep.specs.Sets.{counted, has, lowest}
-use Rattle.kep.specs.Table.{CanEnd, entry}
+use Rattle.kep.specs.Sets.{counted, has}
+use Rattle.kep.specs.inner.Lowest.{lowest}
+use Rattle.kep.specs.Table.{CanEnd}
+use Rattle.kep.specs.computed.Table.{entry}
 use Rattle.kep.specs.inner.Filling.{maskAt, masked, ends}
 use Rattle.kep.proofs.Tests.{and-iff}
 use Rattle.kep.proofs.SetLaws.{lowest-eq, same-set}

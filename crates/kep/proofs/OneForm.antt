@@ -3,11 +3,11 @@ use mathlib.Core.List.{List, List·Permᴰ, Permᴰ·symm, Sublistᴰ·eq-of-len
 use mathlib.Core.Path.{_≡_, sym, ap, _∙_}
 use Prim.Native.Nat.{ℕ}
 use native.Mathlib.Omega.{arith}
-use lib.Dec.{T}
 use Rattle.kep.specs.Lists.{Pairwise, also, total, flat}
 use Rattle.kep.specs.Graph.{Graph}
-use Rattle.kep.specs.Exchange.{isCycle, headOf, turned}
+use Rattle.kep.specs.Exchange.{headOf, turned}
 use Rattle.kep.specs.Plan.{inOrder, insert, recordForm, recordsOf}
+use Rattle.kep.specs.Retold.{Retold, reordered, begun-later, again}
 use Rattle.kep.proofs.Each.{each-of, each-rest}
 use Rattle.kep.proofs.Permutations.{each-perm, distinct-perm}
 use Rattle.kep.proofs.PlanLists.{flat-perm}
@@ -24,17 +24,8 @@ rising-same {p} {q} o o′ d =
     Sublistᴰ·eq-of-length (rising-part headOf p q o (pairwise-map (λ x y h. omega arith) o′) found) (Permᴰ·length-eq d)
 
 module _ (g : Graph) (lc lp : ℕ) where
-  -- the same plan, told otherwise
-  pub data Retold : List (List ℕ) → List (List ℕ) → Type 0 where
-    -- its exchanges in another order
-    reordered : {p q : List (List ℕ)} → List·Permᴰ p q → Retold p q
-    -- its first exchange, a cycle, begun one vertex later
-    begun-later : {x : ℕ} {xs : List ℕ} {p : List (List ℕ)} → T (isCycle g lc (x ∷ xs)) → Retold ((x ∷ xs) ∷ p) ((xs ++ x ∷ []) ∷ p)
-    -- both, as often as one likes
-    again : {p q r : List (List ℕ)} → Retold p q → Retold q r → Retold p r
-
   -- told otherwise, a legal plan is legal
-  pub retold-legal : {p q : List (List ℕ)} → Retold p q → Legal g lc lp p → Legal g lc lp q
+  pub retold-legal : {p q : List (List ℕ)} → Retold g lc lp p q → Legal g lc lp p → Legal g lc lp q
   unfolding flat
   retold-legal {p} {q} (reordered d) h =
       legal-of g lc lp q (each-perm d (legal-exchanges g lc lp p h)) (distinct-perm (flat-perm d) (legal-distinct g lc lp p h))
@@ -47,7 +38,7 @@ module _ (g : Graph) (lc lp : ℕ) where
   retold-legal (again r s) h = retold-legal s (retold-legal r h)
 
   -- and in order it is the same
-  pub retold-order : {p q : List (List ℕ)} → Retold p q → Legal g lc lp p → inOrder p ≡ inOrder q
+  pub retold-order : {p q : List (List ℕ)} → Retold g lc lp p q → Legal g lc lp p → inOrder p ≡ inOrder q
   unfolding inOrder
   retold-order {p} {q} (reordered d) h =
       let same = List·Permᴰ·trans (in-order-perm p) (List·Permᴰ·trans (Permᴰ·map turned d) (Permᴰ·symm (in-order-perm q))) in
@@ -57,10 +48,10 @@ module _ (g : Graph) (lc lp : ℕ) where
   retold-order (again r s) h = retold-order r h ∙ retold-order s (retold-legal r h)
 
   -- so a plan has just one record form
-  pub one-form : {p q : List (List ℕ)} → Retold p q → Legal g lc lp p → recordForm g p ≡ recordForm g q
+  pub one-form : {p q : List (List ℕ)} → Retold g lc lp p q → Legal g lc lp p → recordForm g p ≡ recordForm g q
   unfolding recordForm
   one-form r h = ap (recordsOf g) (retold-order r h)
 
   -- and it is worth the same
-  pub one-total : (w : ℕ → ℕ) {p q : List (List ℕ)} → Retold p q → Legal g lc lp p → total w (flat p) ≡ total w (flat q)
+  pub one-total : (w : ℕ → ℕ) {p q : List (List ℕ)} → Retold g lc lp p q → Legal g lc lp p → total w (flat p) ≡ total w (flat q)
   one-total w {p} {q} r h = rw (← in-order-total w p, ← in-order-total w q) (ap (λ t. total w (flat t)) (retold-order r h))

@@ -2,7 +2,8 @@
 use mathlib.Core.List.{List, _∷_, map, [], List·Memᴰ, List·Memᴰ·head, _++_, append-assoc, Sublistᴰ, Sublistᴰ·slnil, Sublistᴰ·cons, Sublistᴰ·cons-cons, Memᴰ·append-right, Memᴰ·append-left, Memᴰ·cast, Memᴰ·map, List·Permᴰ, List·Permᴰ·nil, List·Permᴰ·cons, List·Permᴰ·swap, List·Permᴰ·trans, Permᴰ·append-left, Permᴰ·append-right, List·Permᴰ·append-comm}
 use mathlib.Core.Path.{ap, refl}
 use Prim.Native.Nat.{ℕ}
-use Rattle.kep.specs.Lists.{Each, also, none, flat, sublists}
+use Rattle.kep.specs.Lists.{Each, also, none, flat}
+use Rattle.kep.specs.computed.Answer.{sublists}
 use Rattle.kep.proofs.Each.{each-append, each-mapped, each-map}
 
 module _ {A : Type 0} where

@@ -9,7 +9,8 @@ use native.Mathlib.Omega.{arith}
 use lib.Count.{trailingZeros, under}
 use lib.Dec.{eqb, T}
 use lib.Pow.{shr-shr, pow-pos}
-use Rattle.kep.specs.Sets.{has, firstWhere, lowestBelow, lowest}
+use Rattle.kep.specs.Sets.{has, firstWhere, lowestBelow}
+use Rattle.kep.specs.inner.Lowest.{lowest}
 use Rattle.kep.proofs.Tests.{same-test}
 
 -- ---- a set's vertices, the lowest first: what holds of 0 and, through the half of s, of x + 1

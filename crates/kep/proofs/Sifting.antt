@@ -6,7 +6,8 @@ use Prim.Native.Nat.{ℕ, _-_, _^_, _≤_, _<_}
 use native.Mathlib.Omega.{arith}
 use lib.Bits.{bitAnd, bitOr, or-zero-l, or-zero-r, or-comm}
 use lib.Dec.{T}
-use Rattle.kep.specs.Sets.{has, lowest, counted, setWhere, Part}
+use Rattle.kep.specs.Sets.{has, counted, setWhere, Part}
+use Rattle.kep.specs.inner.Lowest.{lowest}
 use Rattle.kep.proofs.Tests.{and-iff, and-left, or-cases, or-left, or-right}
 use Rattle.kep.proofs.SetLaws.{not-in-empty, same-bits, same-set, has-below, lowest-is, empty-set}
 use Rattle.kep.proofs.Parts.{has-or, has-and, part-le, part-refl, part-trans}

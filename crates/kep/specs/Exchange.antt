@@ -12,6 +12,7 @@ unfoldable pub walk : Graph → ℕ → List ℕ → Bool
 walk g x [] = true
 walk g x (y ∷ ys) = elim (g .arc x y) [ true ↦ walk g y ys | false ↦ false ]
 
+-- the last of a list that begins with x
 unfoldable pub lastOf : ℕ → List ℕ → ℕ
 lastOf x [] = x
 lastOf x (y ∷ ys) = lastOf y ys
@@ -44,9 +45,9 @@ turnedBy (suc k) (x ∷ xs) = elim (all (λ y. ltb x y) xs) [ true ↦ x ∷ xs 
 
 -- a cycle turned round to begin at its lowest vertex (a chain begins there already: altruists have the lowest numbers)
 unfoldable pub turned : List ℕ → List ℕ
-unfolding turnedBy
 turned xs = turnedBy (length xs) xs
 
+-- the first of a list
 unfoldable pub headOf : List ℕ → ℕ
 headOf [] = 0
 headOf (x ∷ xs) = x

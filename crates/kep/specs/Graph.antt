@@ -18,9 +18,11 @@ pub record WellFormed (g : Graph) : Type 0 where
   pub taker-above : (u v : ℕ) → T (g .arc u v) → g .altruists ≤ v
   pub taker-below : (u v : ℕ) → T (g .arc u v) → v < g .size
 
+-- an altruistic vertex (01: house)
 abbrev pub isAltruist : Graph → ℕ → Bool
 isAltruist g x = ltb x (g .altruists)
 
+-- an ordinary vertex (01: member)
 abbrev pub isMember : Graph → ℕ → Bool
 isMember g x = leb (g .altruists) x && ltb x (g .size)
 

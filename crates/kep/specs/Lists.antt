@@ -1,6 +1,6 @@
 -- What the definitions need of lists.
 use mathlib.Core.Bool.{Bool, true, false}
-use mathlib.Core.List.{List, [], _∷_, _++_, map}
+use mathlib.Core.List.{List, [], _∷_, _++_}
 use Prim.Native.Nat.{ℕ, zero, suc, _+_}
 use lib.Dec.{eqb, ltb}
 use lib.ListN.{take, drop}
@@ -42,6 +42,10 @@ unfoldable pub tabulate : (ℕ → ℕ) → ℕ → List ℕ
 tabulate f zero = []
 tabulate f (suc k) = tabulate f k ++ (f k ∷ [])
 
+-- a table of which the first k entries were written with the values of f
+abbrev pub writtenTo : (ℕ → ℕ) → ℕ → List ℕ → List ℕ
+writtenTo f k table = tabulate f k ++ drop k table
+
 -- k records of w bytes, from the front
 unfoldable pub cut : ℕ → ℕ → List ℕ → List (List ℕ)
 cut w zero bytes = []
@@ -63,11 +67,6 @@ pub data Pairwise {A : Type 0} (R : A → A → Type 0) : List A → Type 0 wher
 unfoldable pub flat : List (List ℕ) → List ℕ
 flat [] = []
 flat (x ∷ xs) = x ++ flat xs
-
--- every part of a list, in the order of the list
-unfoldable pub sublists : {A : Type 0} → List A → List (List A)
-sublists [] = [] ∷ []
-sublists (x ∷ xs) = let r = sublists xs in map (λ l. x ∷ l) r ++ r
 
 -- one list of bytes comes before another or is the same: at the first differing byte, the smaller
 unfoldable pub before : List ℕ → List ℕ → Bool

@@ -1,4 +1,4 @@
--- Legal plans, their record form, and the answer of clearing.
+-- Legal plans, their record form, and what is best among them.
 use mathlib.Core.Path.{_≡_}
 use mathlib.Core.Logic.{_↔_}
 use mathlib.Core.Bool.{Bool, true, false, _&&_}
@@ -6,11 +6,12 @@ use mathlib.Core.List.{List, [], _∷_, _++_}
 use Prim.Native.Nat.{ℕ, _-_, _≤_}
 use lib.ListN.{length, replicate}
 use lib.Dec.{T, ltb}
-use Rattle.kep.specs.Lists.{distinct, keep, total, flat, sublists, before}
+use Rattle.kep.specs.Lists.{distinct, total, flat, before}
 use Rattle.kep.specs.Graph.{Graph, isAltruist}
 use Rattle.kep.specs.Exchange.{isExchange, turned, headOf}
-use Rattle.kep.specs.Table.{exchanges, memberWorth, served}
+use Rattle.kep.specs.Table.{memberWorth, served}
 
+-- each of the lists is an exchange
 unfoldable pub allExchanges : Graph → ℕ → ℕ → List (List ℕ) → Bool
 allExchanges g lc lp [] = true
 allExchanges g lc lp (x ∷ xs) = elim (isExchange g lc lp x) [ true ↦ allExchanges g lc lp xs | false ↦ false ]
@@ -21,6 +22,7 @@ isLegal g lc lp p = allExchanges g lc lp p && distinct (flat p)
 
 -- ---- the record form
 
+-- a list put in by its first vertex
 unfoldable pub insert : List ℕ → List (List ℕ) → List (List ℕ)
 insert x [] = x ∷ []
 insert x (y ∷ ys) = elim (ltb (headOf x) (headOf y)) [ true ↦ x ∷ y ∷ ys | false ↦ y ∷ insert x ys ]
@@ -30,49 +32,33 @@ unfoldable pub inOrder : List (List ℕ) → List (List ℕ)
 inOrder [] = []
 inOrder (x ∷ xs) = insert (turned x) (inOrder xs)
 
+-- the kind of an exchange in its record: 67 for a chain, 82 for a cycle
 unfoldable pub kindOf : Graph → List ℕ → ℕ
 kindOf g [] = 82
 kindOf g (x ∷ xs) = elim (isAltruist g x) [ true ↦ 67 | false ↦ 82 ]
 
+-- the record of an exchange: its vertices filled up with 255 to fourteen bytes, its kind, and the members that it serves
 unfoldable pub recordOf : Graph → List ℕ → List ℕ
-unfolding total
 recordOf g xs = xs ++ replicate (14 - length xs) 255 ++ (kindOf g xs ∷ served g xs ∷ [])
 
+-- records one after another
 unfoldable pub recordsOf : Graph → List (List ℕ) → List ℕ
 recordsOf g [] = []
 recordsOf g (x ∷ xs) = recordOf g x ++ recordsOf g xs
 
 -- the one record form of a plan, in whatever order and from wherever its exchanges are told
 unfoldable pub recordForm : Graph → List (List ℕ) → List ℕ
-unfolding turned headOf insert inOrder kindOf recordOf recordsOf
 recordForm g p = recordsOf g (inOrder p)
 
--- ---- the answer
+-- every exchange fits into a record: it has at most 14 vertices, and they are below the filler
+pub record FitRecords (g : Graph) (lc lp : ℕ) : Type 0 where
+  pub few : (xs : List ℕ) → T (isExchange g lc lp xs) → length xs ≤ 14
+  pub below-filler : g .size ≤ 255
 
--- every legal plan, once
-unfoldable pub plans : Graph → ℕ → ℕ → List (List (List ℕ))
-plans g lc lp = keep (λ p. distinct (flat p)) (sublists (exchanges g lc lp))
+-- ---- what is best
 
--- of two things the one with the greater score, and of equal scores the one whose form comes first
-unfoldable pub better : {A : Type 0} → (A → ℕ) → (A → List ℕ) → A → A → A
-better score form p q =
-    elim (ltb (score q) (score p)) [
-      | true ↦ p
-      | false ↦ elim (ltb (score p) (score q)) [ true ↦ q | false ↦ elim (before (form p) (form q)) [ true ↦ p | false ↦ q ] ]
-    ]
-
--- the best of a list and of one thing more
-unfoldable pub pick : {A : Type 0} → (A → ℕ) → (A → List ℕ) → A → List A → A
-pick score form p [] = p
-pick score form p (q ∷ qs) = better score form q (pick score form p qs)
-
--- the answer of clearing for any worth w of the vertices: of the legal plans one that is worth most, and of those the one
--- whose records come first. Document 01's worth is `memberWorth g`, so that it is one "covering maximum number of non-altruistic vertices" (001, (Lc, Lp)-KEP)
-unfoldable pub answer : (ℕ → ℕ) → Graph → ℕ → ℕ → List (List ℕ)
-unfolding better pick
-answer w g lc lp = pick (λ p. total w (flat p)) (recordForm g) [] (plans g lc lp)
-
--- what the answer is, said of records and a count, whoever made them
+-- records and a count are those of the answer, for the worth w of a vertex: of the legal plans one that is worth most, and of those the one whose records come
+-- first. Document 01's worth is `memberWorth g`: a plan "covering maximum number of non-altruistic vertices" (001, (Lc, Lp)-KEP)
 pub record Best (w : ℕ → ℕ) (g : Graph) (lc lp : ℕ) (records : List ℕ) (count : ℕ) : Type 0 where
   pub legal : (p : List (List ℕ)) × T (isLegal g lc lp p) × (recordForm g p ≡ records) × (total w (flat p) ≡ count)
   pub greatest : (q : List (List ℕ)) → T (isLegal g lc lp q) → total w (flat q) ≤ count

@@ -45,24 +45,16 @@ firstWhere (suc k) from p = elim (p from) [ true ↦ from | false ↦ firstWhere
 
 -- the lowest vertex, k for the empty set
 unfoldable pub lowestBelow : ℕ → ℕ → ℕ
-unfolding firstWhere
 lowestBelow k s = firstWhere k 0 (has s)
-
--- the lowest vertex of a set that is not empty, whatever its width: its vertices are below s
-unfoldable pub lowest : ℕ → ℕ
-unfolding lowestBelow
-lowest s = lowestBelow s s
 
 -- how many vertices it has
 unfoldable pub sizeBelow : ℕ → ℕ → ℕ
-unfolding worthOf
 sizeBelow k s = worthOf (λ _. 1) k s
 
--- with v, and without v; neither changes a set of vertices below k where v is not below k
+-- with v; unchanged, of a set of vertices below k, where v is not below k
 unfoldable pub withVertex : ℕ → ℕ → ℕ → ℕ
-unfolding setWhere
 withVertex k s v = setWhere k (λ u. has s u || eqb u v)
 
+-- without v; unchanged likewise
 unfoldable pub withoutVertex : ℕ → ℕ → ℕ → ℕ
-unfolding setWhere
 withoutVertex k s v = setWhere k (λ u. has s u && not (eqb u v))

@@ -2,3 +2,4 @@
 pub mod BestFilling
 pub mod Filling
 pub mod Paths
+pub mod Lowest

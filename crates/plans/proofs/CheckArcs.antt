@@ -1,34 +1,18 @@
--- Laws of code that tests the vertices of an exchange in the pool's graph: arcs (15), length (16), members.
-use mathlib.Core.Bool.{true, false, not, _&&_, _||_}
+-- Laws of code that tests the vertices of an exchange in the pool's graph: arcs (15), length (16), kind and members (17).
+use mathlib.Core.Bool.{Bool, true, false, _&&_, and-true, and-comm}
 use mathlib.Core.List.{List, [], _∷_}
 use mathlib.Core.Path.{_≡_, refl, sym, _∙_, ap}
-use Prim.Native.Nat.{ℕ, _+_, _-_, _*_, _%_, _^_, _≤_, _<_}
+use Prim.Native.Nat.{ℕ, _+_, _-_, _≤_, _<_}
 use native.Mathlib.Omega.{arith}
-use lib.Bits.{bitAnd}
-use lib.Dec.{eqb, leb}
-use lib.ListN.{length, drop, getD}
+use lib.Dec.{leb}
+use lib.ListN.{length, take, drop, getD, length-drop}
+use lib.Seq.{take-all}
 use borrow.Author.Tests.{lt-ltb, le-ltb, le-leb, lt-leb}
-use Rattle.pool.specs.declared.value.Pool.{Pool}
-use Rattle.kep.specs.Lists.{total}
-use Rattle.kep.specs.Graph.{Graph, isAltruist}
-use Rattle.pool.specs.Value.{graphOf}
+use Rattle.kep.specs.Graph.{Graph}
 use Rattle.kep.specs.Exchange.{walk, lastOf, headOf}
-use Rattle.kep.specs.Table.{memberWorth, served}
 use Rattle.plans.specs.Check.{joined, withinLimits}
-use Rattle.kep.proofs.Tests.{same-test, differ-iff}
-use Rattle.pool.proofs.ValueLaws.{arc-iff}
+use Rattle.kep.proofs.Rest.{rest-next, rest-none}
 use Rattle.kep.proofs.Walks.{walk-cons}
-use Rattle.plans.proofs.Scans.{has-bit, rest-next, rest-none}
-
--- the bit that code tests for an arc
-pub arc-bit : (p : Pool) (u v : ℕ) → p .size ≤ 14 → u < p .size → v < p .size
-    → not (eqb (bitAnd (getD (p .gives) u 0) (1 * 2 ^ v % 2 ^ 16)) 0) ≡ graphOf p .arc u v
-arc-bit p u v small hu hv =
-    let bit = bitAnd (getD (p .gives) u 0) (1 * 2 ^ v % 2 ^ 16) in
-    let (to, from) = has-bit (getD (p .gives) u 0) v (omega arith) in
-    same-test (not (eqb bit 0)) (graphOf p .arc u v)
-    (λ t. arc-iff p u v .1 (hu, hv, to (differ-iff bit 0 .0 t)))
-    (λ t. differ-iff bit 0 .1 (from (arc-iff p u v .0 t .2)))
 
 -- the first of a list, as code reads it
 pub head-here : (xs : List ℕ) → headOf xs ≡ getD xs 0 0
@@ -38,65 +22,46 @@ head-here (x ∷ xs) = refl
 
 -- ---- the walk
 
--- each vertex before the i-th gives to the next: whether the rest does says whether all do
-pub record Walking (g : Graph) (xs : List ℕ) (i : ℕ) : Type 0 where
-  pub some : 1 ≤ i
-  pub within : i ≤ length xs
-  pub left : walk g (getD xs (i - 1) 0) (drop i xs) ≡ walk g (headOf xs) (drop 1 xs)
-
-pub walking-start : (g : Graph) (xs : List ℕ) → 1 ≤ length xs → Walking g xs 1
-walking-start g xs h = record { some = omega arith; within = h; left = ap (λ x. walk g x (drop 1 xs)) (sym (head-here xs)) }
-
-module _ {g : Graph} {xs : List ℕ} {i : ℕ} (k : Walking g xs i) where
+-- u gives to the i-th: whether the rest is a walk from u says what is asked for
+module _ (g : Graph) (u : ℕ) (xs : List ℕ) {i : ℕ} {b : Bool} (left : walk g u (drop i xs) ≡ b) where
   module _ (h : i < length xs) where
-    here : walk g (headOf xs) (drop 1 xs) ≡ (g .arc (getD xs (i - 1) 0) (getD xs i 0) && walk g (getD xs i 0) (drop (i + 1) xs))
-    here =
-        sym (k .left)
-        ∙ ap (walk g (getD xs (i - 1) 0)) (rest-next xs i h)
-        ∙ walk-cons g (getD xs (i - 1) 0) (getD xs i 0) (drop (i + 1) xs)
+    here : b ≡ (g .arc u (getD xs i 0) && walk g (getD xs i 0) (drop (i + 1) xs))
+    here = sym left ∙ ap (walk g u) (rest-next xs i h) ∙ walk-cons g u (getD xs i 0) (drop (i + 1) xs)
 
-    pub walking-stop : g .arc (getD xs (i - 1) 0) (getD xs i 0) ≡ false → false ≡ walk g (headOf xs) (drop 1 xs)
-    walking-stop e = sym (here ∙ ap (λ b. b && walk g (getD xs i 0) (drop (i + 1) xs)) e)
+    pub walk-stop : g .arc u (getD xs i 0) ≡ false → false ≡ b
+    walk-stop e = sym (here ∙ ap (λ t. t && walk g (getD xs i 0) (drop (i + 1) xs)) e)
 
-    pub walking-next : g .arc (getD xs (i - 1) 0) (getD xs i 0) ≡ true → Walking g xs (i + 1)
-    walking-next e =
-        let back : i + 1 - 1 ≡ i = omega arith in
-        record {
-          some = omega arith;
-          within = omega arith;
-          left = rw back (sym (here ∙ ap (λ b. b && walk g (getD xs i 0) (drop (i + 1) xs)) e));
-        }
+    pub walk-next : g .arc u (getD xs i 0) ≡ true → walk g (getD xs i 0) (drop (i + 1) xs) ≡ b
+    walk-next e = sym (here ∙ ap (λ t. t && walk g (getD xs i 0) (drop (i + 1) xs)) e)
 
-  pub walking-end : length xs ≤ i → true ≡ walk g (headOf xs) (drop 1 xs)
+  pub walk-end : length xs ≤ i → true ≡ b
   unfolding walk
-  walking-end h = ap (walk g (getD xs (i - 1) 0)) (sym (rest-none xs i h)) ∙ k .left
+  walk-end h = ap (walk g u) (sym (rest-none xs i h)) ∙ left
 
 -- ---- all arcs needed
+
+-- the vertices behind the first, as code lends them
+pub tail-part : (xs : List ℕ) → take (length xs - 1) (drop 1 xs) ≡ drop 1 xs
+tail-part xs = take-all (length xs - 1) (drop 1 xs) (omega (arith, length-drop 1 xs))
 
 last-here : (x : ℕ) (xs : List ℕ) → lastOf x xs ≡ getD (x ∷ xs) (length xs) 0
 unfolding lastOf
 last-here x [] = refl
 last-here x (y ∷ ys) = last-here y ys
 
-joined-is : (g : Graph) (xs : List ℕ) → 1 ≤ length xs
-    → joined g xs
-    ≡ (walk g (headOf xs) (drop 1 xs) && (isAltruist g (getD xs 0 0) || g .arc (getD xs (length xs - 1) 0) (getD xs 0 0)))
-unfolding joined headOf
-joined-is g [] h = absurd (omega arith)
-joined-is g (x ∷ xs) h =
-    let back : length (x ∷ xs) - 1 ≡ length xs = omega arith in
-    rw back (ap (λ v. walk g x xs && (isAltruist g x || g .arc v x)) (last-here x xs))
+module _ (g : Graph) where
+  pub joined-chain : (xs : List ℕ) → 1 ≤ length xs → getD xs 0 0 < g .altruists → walk g (getD xs 0 0) (drop 1 xs) ≡ joined g xs
+  unfolding joined
+  joined-chain [] some h = absurd (omega arith)
+  joined-chain (x ∷ xs) some h = rw (lt-ltb x (g .altruists) h) (sym (and-true (walk g x xs)))
 
-module _ (g : Graph) (xs : List ℕ) (some : 1 ≤ length xs) where
-  pub joined-broken : walk g (headOf xs) (drop 1 xs) ≡ false → false ≡ joined g xs
-  joined-broken e = rw (joined-is g xs some, e)
-
-  pub joined-chain : walk g (headOf xs) (drop 1 xs) ≡ true → getD xs 0 0 < g .altruists → true ≡ joined g xs
-  joined-chain e h = rw (joined-is g xs some, e, lt-ltb (getD xs 0 0) (g .altruists) h)
-
-  pub joined-cycle : walk g (headOf xs) (drop 1 xs) ≡ true → g .altruists ≤ getD xs 0 0
-      → g .arc (getD xs (length xs - 1) 0) (getD xs 0 0) ≡ joined g xs
-  joined-cycle e h = rw (joined-is g xs some, e, le-ltb (getD xs 0 0) (g .altruists) h)
+  -- the last vertex of a cycle gives to the first
+  pub joined-cycle : (xs : List ℕ) → 1 ≤ length xs → g .altruists ≤ getD xs 0 0 → walk g (getD xs (length xs - 1) 0) xs ≡ joined g xs
+  unfolding joined
+  joined-cycle [] some h = absurd (omega arith)
+  joined-cycle (x ∷ xs) some h =
+      let back : length (x ∷ xs) - 1 ≡ length xs = omega arith in
+      rw (back, ← last-here x xs, le-ltb x (g .altruists) h) (walk-cons g (lastOf x xs) x xs ∙ and-comm (g .arc (lastOf x xs) x) (walk g x xs))
 
 -- ---- its length
 
@@ -118,34 +83,3 @@ module _ (g : Graph) (lc lp : ℕ) where
   limits-chain (x ∷ xs) some h =
       let back : length (x ∷ xs) - 1 ≡ length xs = omega arith in
       rw (back, lt-ltb x (g .altruists) h, withinLimits, le-leb 1 (length xs) (omega arith))
-
--- ---- its members
-
--- n of the vertices before the i-th are members
-pub record Serving (g : Graph) (xs : List ℕ) (n i : ℕ) : Type 0 where
-  pub within : i ≤ length xs
-  pub few : n ≤ i
-  pub left : n + served g (drop i xs) ≡ served g xs
-
-pub serving-start : (g : Graph) (xs : List ℕ) → Serving g xs 0 0
-serving-start g xs = record { within = omega arith; few = omega arith; left = omega arith }
-
-module _ {g : Graph} {xs : List ℕ} {n i : ℕ} (k : Serving g xs n i) where
-  module _ (h : i < length xs) where
-    turn : served g (drop i xs) ≡ memberWorth g (getD xs i 0) + served g (drop (i + 1) xs)
-    unfolding total
-    turn = ap (served g) (rest-next xs i h)
-
-    pub serving-member : {next : ℕ} → g .altruists ≤ getD xs i 0 → getD xs i 0 < g .size → next ≡ n + 1 → Serving g xs next (i + 1)
-    serving-member l b e =
-        let one : memberWorth g (getD xs i 0) ≡ 1 = rw (le-leb (g .altruists) (getD xs i 0) l, lt-ltb (getD xs i 0) (g .size) b) in
-        record { within = omega arith; few = omega (arith, k .few); left = omega (arith, turn, k .left) }
-
-    pub serving-other : {next : ℕ} → getD xs i 0 < g .altruists → next ≡ n → Serving g xs next (i + 1)
-    serving-other l e =
-        let none : memberWorth g (getD xs i 0) ≡ 0 = rw (lt-leb (g .altruists) (getD xs i 0) l) in
-        record { within = omega arith; few = omega (arith, k .few); left = omega (arith, turn, k .left) }
-
-  pub serving-end : length xs ≤ i → n ≡ served g xs
-  unfolding total
-  serving-end h = omega (arith, k .left, ap (served g) (rest-none xs i h))

@@ -10,10 +10,10 @@ use Rattle.pool.specs.declared.value.Pool.{Pool}
 use Rattle.pool.specs.Refusals.{numberOf, Outcome, accepted, refused, outcomeOf, tested, andThen}
 use Rattle.pool.specs.Limits.{limitsFit, testLimits}
 use Rattle.pool.specs.Value.{graphOf}
-use Rattle.pool.specs.Records.{readPool}
+use Rattle.reading.specs.Records.{readPool}
 use Rattle.plans.specs.Check.{check}
 use Rattle.plans.specs.CheckCall.{checkOutcome}
-use Rattle.pool.proofs.Tested.{goes-on, stops, outcome-accepted, outcome-refused}
+use Rattle.pool.proofs.Tested.{with-rest, outcome-accepted, outcome-refused}
 
 module _ (pool : List ℕ) (l : Limits) (plan : List ℕ) where
   -- once the pool is read
@@ -30,12 +30,12 @@ module _ (pool : List ℕ) (l : Limits) (plan : List ℕ) where
     pub limits-refused : {r : Refusal} → v ≡ verdict.Refused r → refused (numberOf (r .cause)) (r .at) ≡ checkOutcome pool l plan
     unfolding testLimits
     limits-refused e =
-        sym (stops l ((7, limitsFit l) ∷ []) 0 (sym (outcome-refused l e limits)) (check (graphOf p) (l .cycle) (l .chain) plan))
+        sym (with-rest l ((7, limitsFit l) ∷ []) 0 (sym (outcome-refused l e limits)) (check (graphOf p) (l .cycle) (l .chain) plan))
         ∙ ap (λ o. andThen o then) read
 
     -- the records
     pub records-checked : v ≡ verdict.Accepted → check (graphOf p) (l .cycle) (l .chain) plan ≡ checkOutcome pool l plan
     unfolding testLimits
     records-checked e =
-        sym (goes-on l ((7, limitsFit l) ∷ []) 0 (sym (outcome-accepted e limits)) (check (graphOf p) (l .cycle) (l .chain) plan))
+        sym (with-rest l ((7, limitsFit l) ∷ []) 0 (sym (outcome-accepted e limits)) (check (graphOf p) (l .cycle) (l .chain) plan))
         ∙ ap (λ o. andThen o then) read

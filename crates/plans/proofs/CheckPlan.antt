@@ -9,16 +9,17 @@ use Rattle.kep.specs.Lists.{Each, none, also, Pairwise, nil, cons, distinct, fl
 use Rattle.kep.specs.Graph.{Graph, WellFormed}
 use Rattle.kep.specs.Exchange.{headOf}
 use Rattle.kep.specs.Table.{served}
-use Rattle.kep.specs.Plan.{recordOf}
+use Rattle.kep.specs.Plan.{recordOf, FitRecords}
 use Rattle.pool.specs.Refusals.{accepted, refused, tested}
 use Rattle.plans.specs.Check.{verticesOf, fresh, recordTests, checkFrom}
 use Rattle.kep.proofs.Each.{each-first, each-rest, each-map}
 use Rattle.kep.proofs.ListLaws.{distinct-append}
-use Rattle.pool.proofs.Tested.{Pass, all-pass, all-held, stops}
+use Rattle.pool.proofs.Tested.{all-pass, all-held, with-rest}
+use Rattle.pool.specs.Causes.{Pass}
 use Rattle.kep.proofs.Ordered.{pairwise-first, pairwise-rest}
-use Rattle.kep.proofs.ExchangeFacts.{Told, FitRecords}
+use Rattle.kep.proofs.ExchangeFacts.{Told}
 use Rattle.kep.proofs.InOrder.{Rises}
-use Rattle.plans.proofs.Records.{Whole}
+use Rattle.kep.proofs.WholeRecords.{Whole}
 use Rattle.plans.proofs.CheckRecord.{Next, record-accepted, record-passes, exchange-back}
 
 -- the vertices met, and then those of a plan
@@ -74,7 +75,7 @@ module _ (g : Graph) (lc lp : ℕ) where
     pub check-stop : {A : Type 0} (a : A) {cause at : ℕ} → tested (recordTests g lc lp (fresh met) least r) i (accepted a) ≡ refused cause at
         → checkFrom g lc lp met least i (r ∷ rs) ≡ refused cause at
     unfolding checkFrom
-    check-stop a e = stops a (recordTests g lc lp (fresh met) least r) i e _
+    check-stop a e = with-rest a (recordTests g lc lp (fresh met) least r) i e _
 
     -- what is accepted meets no cause in its first record
     check-first : {k : ℕ} → checkFrom g lc lp met least i (r ∷ rs) ≡ accepted k → Each Pass (recordTests g lc lp (fresh met) least r)

@@ -11,14 +11,14 @@ use Rattle.kep.specs.Lists.{Each, none, also, all, distinct}
 use Rattle.kep.specs.Graph.{Graph, WellFormed, isAltruist}
 use Rattle.kep.specs.Exchange.{walk, lastOf, headOf}
 use Rattle.kep.specs.Table.{lowestFirst, served}
-use Rattle.kep.specs.Plan.{kindOf, recordOf}
+use Rattle.kep.specs.Plan.{kindOf, recordOf, FitRecords}
 use Rattle.plans.specs.Check.{verticesOf, fillerOf, noneLower, listsVertices, fresh, rising, joined, withinLimits, endsRight, recordTests}
 use Rattle.kep.proofs.Tests.{and-left, and-right, and-both, and-iff, passes?, is-true, is-false}
 use Rattle.kep.proofs.Each.{each-map, each-both, each-rest}
 use Rattle.kep.proofs.ListLaws.{all-each, each-all, distinct-first, distinct-append-right}
-use Rattle.pool.proofs.Tested.{Pass}
+use Rattle.pool.specs.Causes.{Pass}
 use Rattle.kep.proofs.Walks.{lower-lowestFirst}
-use Rattle.kep.proofs.ExchangeFacts.{Exchange, Told, exchange-below, exchange-some, exchange-walk, FitRecords}
+use Rattle.kep.proofs.ExchangeFacts.{Exchange, Told, exchange-below, exchange-some, exchange-walk, fits-few}
 use Rattle.kep.proofs.Fits.{fits, fits-chain, fits-cycle, exchange-fits, fits-exchange}
 use Rattle.kep.proofs.Canonical.{head-least}
 use Rattle.plans.proofs.Records.{Places, filler-all, record-vertices, record-filler, record-kind, record-count, record-back}
@@ -145,7 +145,7 @@ module _ (g : Graph) (lc lp : ℕ) where
 
     -- an exchange is read back from its record
     pub exchange-back : {xs : List ℕ} → Exchange g lc lp xs → verticesOf (recordOf g xs) ≡ xs
-    exchange-back {xs} h = record-vertices g xs (fit .few h) (exchange-places h)
+    exchange-back {xs} h = record-vertices g xs (fits-few fit h) (exchange-places h)
 
     -- the record of an exchange that may come next meets no cause
     pub record-passes : (met : List ℕ) (least : ℕ) {xs : List ℕ} → Next g lc lp met least xs
@@ -158,11 +158,11 @@ module _ (g : Graph) (lc lp : ℕ) where
         passes-no-cause g lc lp (fresh met) least (recordOf g xs) record {
           some = rw back (exchange-some g x);
           below = rw back (exchange-below g x);
-          filler = rw (record-filler g xs (fit .few x) (exchange-places x)) (filler-all (14 - length xs));
+          filler = rw (record-filler g xs (fits-few fit x) (exchange-places x)) (filler-all (14 - length xs));
           new-here = rw back (n .apart);
           rises = rw back (lowest-rising least xs (n .told .1) (n .after));
           arcs = rw back (tests .0);
           size = rw back (tests .1);
-          kind = rw back (record-kind g xs (fit .few x));
-          count = rw back (record-count g xs (fit .few x));
+          kind = rw back (record-kind g xs (fits-few fit x));
+          count = rw back (record-count g xs (fits-few fit x));
         }

@@ -22,7 +22,8 @@ use Rattle.kep.proofs.Tests.{passes?, is-true, is-false, and-both}
 use Rattle.kep.proofs.Each.{each-append}
 use Rattle.kep.proofs.ListLaws.{distinct-append, distinct-snoc, elem-iff}
 use Rattle.kep.proofs.Cut.{cut-from, cut-none}
-use Rattle.pool.proofs.Tested.{Pass, all-held}
+use Rattle.pool.proofs.Tested.{all-held}
+use Rattle.pool.specs.Causes.{Pass}
 use Rattle.kep.proofs.Vertices.{or-with}
 use Rattle.kep.proofs.SetOf.{has-setOf, setOf-snoc}
 use Rattle.kep.proofs.Worth.{total-append, list-worth, worth-le}
@@ -89,6 +90,11 @@ kept-added (x ∷ xs) {met} k f = rw (append-snoc met x xs) at (kept-added xs (k
 counted-le : (b : Bool) (n : ℕ) → counted b n ≤ n
 counted-le true n = omega arith
 counted-le false n = omega arith
+
+pub served-most : (g : Graph) (xs : List ℕ) → served g xs ≤ length xs
+unfolding total
+served-most g [] = omega arith
+served-most g (x ∷ xs) = omega (arith, counted-le (isMember g x) 1, served-most g xs)
 
 module _ (g : Graph) (lc lp : ℕ) (bytes : List ℕ) where
   -- the records from record i on

@@ -10,18 +10,19 @@ use lib.ListN.{length}
 use Rattle.kep.specs.Lists.{Each, none, also, distinct, total, flat}
 use Rattle.kep.specs.Graph.{Graph, WellFormed}
 use Rattle.kep.specs.Table.{memberWorth, served}
-use Rattle.kep.specs.Plan.{inOrder, recordOf, recordsOf, recordForm}
-use Rattle.pool.specs.Refusals.{Outcome, accepted, refused}
+use Rattle.kep.specs.Plan.{inOrder, recordOf, recordsOf, recordForm, FitRecords}
+use Rattle.pool.specs.Refusals.{Outcome, accepted, refused, tested}
 use Rattle.plans.specs.Check.{verticesOf, recordsIn, listsIn, counts, checkFrom, check, LegalForm}
 use Rattle.kep.proofs.Tests.{eq→eqb}
 use Rattle.kep.proofs.Each.{each-first, each-map, each-any, each-mapped}
 use Rattle.pool.proofs.Tested.{passes, fails, all-held}
 use Rattle.kep.proofs.Worth.{total-append}
-use Rattle.kep.proofs.ExchangeFacts.{Told, FitRecords}
+use Rattle.kep.proofs.ExchangeFacts.{Told, fits-few}
 use Rattle.kep.proofs.Bytes.{record-length}
 use Rattle.kep.proofs.InOrder.{in-order-total}
 use Rattle.kep.proofs.Legal.{Legal, legal-of, legal-rises, in-order-told, in-order-distinct, told-in-order}
-use Rattle.plans.proofs.Records.{Whole, record-count, cut-whole, cut-joins, whole-length, records-joined}
+use Rattle.plans.proofs.Records.{record-count, records-joined}
+use Rattle.kep.proofs.WholeRecords.{Whole, cut-whole, cut-joins, whole-length}
 use Rattle.plans.proofs.CheckRecord.{exchange-back}
 use Rattle.plans.proofs.CheckPlan.{Follows, follows-accepted, accepted-follows}
 
@@ -34,7 +35,7 @@ records-flat g (x ∷ p) = ap (λ bs. recordOf g x ++ bs) (records-flat g p)
 module _ (g : Graph) (lc lp : ℕ) where
   -- bytes of whole records are checked record by record; others are not accepted
   pub check-whole : (bytes : List ℕ) → length bytes % 16 ≡ 0 → check g lc lp bytes ≡ checkFrom g lc lp [] 0 0 (recordsIn bytes)
-  unfolding check
+  unfolding check tested
   check-whole bytes h = passes 11 (eqb (length bytes % 16) 0) [] 0 _ (eq→eqb (length bytes % 16) 0 h)
 
   pub check-length : (bytes : List ℕ) → length bytes % 16 ≢ 0 → check g lc lp bytes ≡ refused 11 0
@@ -77,7 +78,7 @@ module _ (g : Graph) (lc lp : ℕ) where
     unfolding counts flat total
     counts-served none = refl
     counts-served (also {x = x} {xs = q} t ts) =
-        ap₂ (λ a b. a + b) (record-count g x (fit .few (t .0))) (counts-served ts) ∙ sym (total-append (memberWorth g) x (flat q))
+        ap₂ (λ a b. a + b) (record-count g x (fits-few fit (t .0))) (counts-served ts) ∙ sym (total-append (memberWorth g) x (flat q))
 
     module _ (p : List (List ℕ)) (legal : Legal g lc lp p) where
       told : Each (Told g lc lp) (inOrder p)
@@ -88,7 +89,7 @@ module _ (g : Graph) (lc lp : ℕ) where
       form-flat = records-flat g (inOrder p)
 
       form-whole : Whole 16 (map (recordOf g) (inOrder p))
-      form-whole = each-mapped (recordOf g) (λ x t. record-length g x (fit .few (t .0))) told
+      form-whole = each-mapped (recordOf g) (λ x t. record-length g x (fits-few fit (t .0))) told
 
       form-multiple : length (recordForm g p) % 16 ≡ 0
       form-multiple = rw form-flat (omega (arith, whole-length 16 form-whole))
@@ -98,7 +99,7 @@ module _ (g : Graph) (lc lp : ℕ) where
       form-records = ap recordsIn form-flat ∙ records-joined form-whole
 
       -- they tell these exchanges
-      form-lists : listsIn (recordForm g p) ≡ inOrder p
+      pub form-lists : listsIn (recordForm g p) ≡ inOrder p
       form-lists = ap (map verticesOf) form-records ∙ lists-back told
 
       -- their bytes 15 add up to the members that the plan serves

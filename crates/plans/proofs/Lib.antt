@@ -6,7 +6,7 @@ pub mod CheckRecord
 pub mod CheckPlan
 pub mod Checked
 pub mod CheckSteps
-pub mod Scans
+pub mod Meeting
 pub mod RecordVertices
 pub mod CheckArcs
 pub mod CheckCode

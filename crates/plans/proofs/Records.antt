@@ -1,21 +1,22 @@
 -- Reading records back: the vertices of a record, and the records of plan bytes.
 use mathlib.Core.Bool.{Bool, true, false}
 use mathlib.Core.List.{List, [], _∷_, _++_}
+use mathlib.Core.Logic.{_≢_}
 use mathlib.Core.Path.{_≡_, refl, sym, _∙_, ap, ap₂}
-use Prim.Native.Nat.{ℕ, zero, suc, _+_, _-_, _*_, _/_, _≤_, _<_}
-use native.Mathlib.Nat.{zero-mul, suc-mul}
+use Prim.Native.Nat.{ℕ, zero, suc, _+_, _-_, _/_, _≤_, _<_}
 use native.Mathlib.Omega.{arith}
 use lib.Dec.{eqb, T, eqb→eq}
-use lib.ListN.{length, take, drop, getD, replicate, length-append, length-drop, length-replicate, take-append-drop, drop-of-length-le}
-use lib.Seq.{take-at, drop-at, getD-at, drop-cons, length-take-le, append-snoc}
-use borrow.Author.Tests.{ne-eqb}
+use lib.ListN.{length, take, getD, replicate, length-append, take-append-drop}
+use lib.Seq.{take-at, getD-at, length-take-le, append-snoc}
+use borrow.Author.Tests.{eq-eqb, ne-eqb}
 use Rattle.kep.specs.Lists.{Each, none, also, all, flat, cut}
 use Rattle.kep.specs.Graph.{Graph}
 use Rattle.kep.specs.Table.{served}
 use Rattle.kep.specs.Plan.{kindOf, recordOf}
 use Rattle.plans.specs.Check.{listed, unlisted, verticesOf, fillerOf, recordsIn}
+use Rattle.kep.proofs.WholeRecords.{Whole, whole-length, cut-flat}
 use Rattle.kep.proofs.ListLaws.{all-each}
-use Rattle.kep.proofs.Bytes.{padded}
+use Rattle.kep.proofs.Bytes.{padded, padded-length, last-two}
 
 -- ---- the places of a record
 
@@ -30,6 +31,14 @@ listed-unlisted (b ∷ bs) = go (eqb b 255) (listed-unlisted bs)
     go true r = refl
     go false r = ap (λ cs. b ∷ cs) r
 
+pub listed-filler : (b : ℕ) (bs : List ℕ) → b ≡ 255 → listed (b ∷ bs) ≡ []
+unfolding listed
+listed-filler b bs e = rw (eq-eqb b 255 e, listed)
+
+pub listed-vertex : (b : ℕ) (bs : List ℕ) → b ≢ 255 → listed (b ∷ bs) ≡ b ∷ listed bs
+unfolding listed
+listed-vertex b bs n = rw (ne-eqb b 255 n, listed)
+
 -- numbers that can stand as places in a record
 abbrev pub Places : List ℕ → Type 0
 Places xs = Each (λ x. x < 255) xs
@@ -39,7 +48,7 @@ listed-filled : {xs : List ℕ} (k : ℕ) → Places xs → listed (xs ++ replic
 unfolding listed
 listed-filled zero none = refl
 listed-filled (suc k) none = refl
-listed-filled k (also {x = x} {xs = xs} h hs) = rw (ne-eqb x 255 (λ e. omega arith), listed) (ap (λ ys. x ∷ ys) (listed-filled k hs))
+listed-filled k (also {x = x} {xs = xs} h hs) = rw (listed-vertex x (xs ++ replicate k 255) (λ e. omega arith)) (ap (λ ys. x ∷ ys) (listed-filled k hs))
 
 unlisted-filled : {xs : List ℕ} (k : ℕ) → Places xs → unlisted (xs ++ replicate k 255) ≡ replicate k 255
 unfolding unlisted
@@ -61,8 +70,7 @@ all-filler (also {x = b} h hs) = ap₂ (λ c cs. c ∷ cs) (eqb→eq b 255 h) (a
 
 module _ (g : Graph) (xs : List ℕ) (few : length xs ≤ 14) where
   places-length : length (padded 14 255 xs) ≡ 14
-  unfolding padded
-  places-length = simp (length-append, length-replicate) (omega arith)
+  places-length = padded-length 14 255 xs few
 
   -- the last two bytes are its kind and its count
   pub record-kind : getD (recordOf g xs) 14 0 ≡ kindOf g xs
@@ -94,11 +102,7 @@ module _ (g : Graph) (xs : List ℕ) (few : length xs ≤ 14) where
 module _ (r : List ℕ) (whole : length r ≡ 16) where
   -- the places, the kind, the count
   record-parts : r ≡ take 14 r ++ (getD r 14 0 ∷ getD r 15 0 ∷ [])
-  record-parts =
-      let end : drop 16 r ≡ [] = drop-of-length-le r {i = 16} (omega arith) in
-      let count : drop 15 r ≡ getD r 15 0 ∷ [] = drop-cons r 15 0 (omega arith) ∙ ap (λ bs. getD r 15 0 ∷ bs) end in
-      let kind : drop 14 r ≡ getD r 14 0 ∷ getD r 15 0 ∷ [] = drop-cons r 14 0 (omega arith) ∙ ap (λ bs. getD r 14 0 ∷ bs) count in
-      sym (take-append-drop 14 r) ∙ ap (λ bs. take 14 r ++ bs) kind
+  record-parts = sym (take-append-drop 14 r) ∙ ap (λ bs. take 14 r ++ bs) (last-two r whole)
 
   pub vertices-few : length (verticesOf r) + length (fillerOf r) ≡ 14
   unfolding verticesOf fillerOf
@@ -117,38 +121,6 @@ module _ (r : List ℕ) (whole : length r ≡ 16) where
       ap₂ (λ bs cs. bs ++ cs) front (ap₂ (λ k c. k ∷ c ∷ []) (sym kind) (sym count)) ∙ sym record-parts
 
 -- ---- the records of plan bytes
-
--- records of w bytes
-abbrev pub Whole : ℕ → List (List ℕ) → Type 0
-Whole w rs = Each (λ r. length r ≡ w) rs
-
-module _ (w : ℕ) where
-  -- one record less
-  drop-whole : (k : ℕ) (bs : List ℕ) → length bs ≡ suc k * w → length (drop w bs) ≡ k * w
-  drop-whole k bs h = omega (arith, length-drop w bs, suc-mul k w)
-
-  -- bytes of k records are cut into whole records, which joined are these bytes
-  pub cut-whole : (k : ℕ) (bs : List ℕ) → length bs ≡ k * w → Whole w (cut w k bs)
-  unfolding cut
-  cut-whole zero bs h = none
-  cut-whole (suc k) bs h = also {x = take w bs} (length-take-le w bs (omega (arith, suc-mul k w))) (cut-whole k (drop w bs) (drop-whole k bs h))
-
-  pub cut-joins : (k : ℕ) (bs : List ℕ) → length bs ≡ k * w → flat (cut w k bs) ≡ bs
-  unfolding cut flat
-  cut-joins zero [] h = refl
-  cut-joins zero (b ∷ bs) h = absurd (omega (arith, zero-mul w))
-  cut-joins (suc k) bs h = ap (λ cs. take w bs ++ cs) (cut-joins k (drop w bs) (drop-whole k bs h)) ∙ take-append-drop w bs
-
-  -- whole records joined are cut into the same records
-  pub whole-length : {rs : List (List ℕ)} → Whole w rs → length (flat rs) ≡ length rs * w
-  unfolding flat
-  whole-length none = omega (arith, zero-mul w)
-  whole-length (also {x = r} {xs = rs} h hs) = omega (arith, length-append r (flat rs), suc-mul (length rs) w, whole-length hs)
-
-  cut-flat : {rs : List (List ℕ)} → Whole w rs → cut w (length rs) (flat rs) ≡ rs
-  unfolding cut flat
-  cut-flat none = refl
-  cut-flat (also {x = r} {xs = rs} h hs) = ap₂ (λ x xs. x ∷ xs) (take-at r (flat rs) w h) (ap (cut w (length rs)) (drop-at r (flat rs) w h) ∙ cut-flat hs)
 
 pub records-joined : {rs : List (List ℕ)} → Whole 16 rs → recordsIn (flat rs) ≡ rs
 records-joined {rs} h =

@@ -5,7 +5,7 @@ use Rattle.pool.specs.declared.limits.Limits.{Limits}
 use Rattle.pool.specs.Refusals.{numberOf, Outcome, accepted, refused, tested, andThen}
 use Rattle.pool.specs.Limits.{limitsFit}
 use Rattle.pool.specs.Value.{graphOf}
-use Rattle.pool.specs.Records.{readPool}
+use Rattle.reading.specs.Records.{readPool}
 use Rattle.plans.specs.declared.checker.Checked.{Checked}
 use Rattle.plans.specs.declared.checker.Checked.the-variants as checked
 use Rattle.plans.specs.Check.{check}

@@ -1,39 +1,25 @@
-// What the checker tests of the vertices of an exchange in the pool's graph: its arcs, its length, its members.
+// What the checker tests of the vertices of an exchange in the pool's graph: causes 15 and 16.
 use pool::Limits;
 use pool::Pool;
 ghost use mathlib.Core.Path.{_≡_};
 ghost use Prim.Native.Nat.{_≤_, _<_};
-ghost use lib.ListN.{length, drop};
-ghost use Rattle.kep.specs.Lists.{Each};
+ghost use lib.ListN.{length};
 ghost use Rattle.pool.specs.Value.{graphOf};
-ghost use Rattle.kep.specs.Exchange.{walk, headOf};
-ghost use Rattle.kep.specs.Table.{served};
+ghost use Rattle.kep.specs.Exchange.{walk};
 ghost use Rattle.plans.specs.Check.{joined, withinLimits};
 
-// Is there an arc from one vertex to another?
-fn has_arc(pool: Pool, from: u8, to: u8) -> bool
-    requires { ⌜ pool .size ≤ 14 ⌝ }
-    requires { ⌜ from < pool .size ⌝ }
-    requires { ⌜ to < pool .size ⌝ }
-    ensures { λ r. ⌜ r ≡ graphOf pool .arc from to ⌝ }
+// Does the vertex give to the first of these, and each of them to the next?
+fn walks(pool: Pool, from: u8, vertices: &[u8]) -> bool
+    ensures { λ r. ⌜ r ≡ walk (graphOf pool) from (now (vertices .entry)) ⌝ }
 {
-    let gives = pool.gives;
-    let giver = from as usize;
-    gives[giver] & (1u16 << to) != 0
-}
-
-// Does each vertex give to the next?
-fn walks(pool: Pool, vertices: &[u8]) -> bool
-    requires { ⌜ pool .size ≤ 14 ⌝ }
-    requires { ⌜ 1 ≤ length (now vertices) ⌝ }
-    requires { ⌜ Each (λ x. x < pool .size) (now vertices) ⌝ }
-    ensures { λ r. ⌜ r ≡ walk (graphOf pool) (headOf (now (vertices .entry))) (drop 1 (now (vertices .entry))) ⌝ }
-{
-    let mut i: usize = 1;
+    let mut giver = from;
+    let mut i: usize = 0;
     while i < vertices.len() {
-        if !has_arc(pool, vertices[i - 1], vertices[i]) {
+        let taker = vertices[i];
+        if !pool.arc(giver, taker) {
             return false;
         }
+        giver = taker;
         i += 1;
     }
     true
@@ -41,18 +27,14 @@ fn walks(pool: Pool, vertices: &[u8]) -> bool
 
 // Cause 15: is no needed arc missing? The last vertex of a cycle also gives to the first.
 pub(crate) fn all_joined(pool: Pool, vertices: &[u8]) -> bool
-    requires { ⌜ pool .size ≤ 14 ⌝ }
     requires { ⌜ 1 ≤ length (now vertices) ⌝ }
-    requires { ⌜ Each (λ x. x < pool .size) (now vertices) ⌝ }
     ensures { λ r. ⌜ r ≡ joined (graphOf pool) (now (vertices .entry)) ⌝ }
 {
-    if !walks(pool, vertices) {
-        return false;
+    let first = vertices[0];
+    if first < pool.altruists {
+        return walks(pool, first, &vertices[1..]);
     }
-    if vertices[0] < pool.altruists {
-        return true;
-    }
-    has_arc(pool, vertices[vertices.len() - 1], vertices[0])
+    walks(pool, vertices[vertices.len() - 1], vertices)
 }
 
 // Cause 16: has a chain 1 to Lp members, a cycle at most Lc?
@@ -70,21 +52,4 @@ pub(crate) fn within_limits(pool: Pool, limits: Limits, vertices: &[u8]) -> bool
         return false;
     }
     count - 1 <= chain
-}
-
-// How many of the vertices are members?
-pub(crate) fn count_members(pool: Pool, vertices: &[u8]) -> u8
-    requires { ⌜ length (now vertices) ≤ 14 ⌝ }
-    requires { ⌜ Each (λ x. x < pool .size) (now vertices) ⌝ }
-    ensures { λ r. ⌜ r ≡ served (graphOf pool) (now (vertices .entry)) ⌝ }
-{
-    let mut members: u8 = 0;
-    let mut i: usize = 0;
-    while i < vertices.len() {
-        if pool.altruists <= vertices[i] {
-            members += 1;
-        }
-        i += 1;
-    }
-    members
 }

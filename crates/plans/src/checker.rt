@@ -1,4 +1,5 @@
 // The checker: are plan bytes the record form of a legal plan, and how many members does it serve?
+use crate::check_record::Before;
 use crate::check_record::RecordAnswer;
 use crate::check_record::check_record;
 use pool::Cause;
@@ -6,8 +7,8 @@ use pool::Limits;
 use pool::Pool;
 use pool::Refusal;
 use pool::Verdict;
-use pool::VertexSet;
-use pool::read_pool;
+use reading::read_pool;
+use sets::VertexSet;
 ghost use mathlib.Core.Path.{_≡_};
 ghost use lib.Dec.{T};
 ghost use Rattle.pool.specs.Value.{graphOf, poolFits};
@@ -49,18 +50,18 @@ fn check_records(pool: Pool, limits: Limits, plan: &[u8]) -> Checked
         });
     }
     let records = plan.len() / 16;
-    let mut met = VertexSet(0);
-    let mut least: u8 = 0;
-    let mut served: u8 = 0;
+    let mut before = Before {
+        met: VertexSet(0),
+        least: 0,
+        served: 0,
+    };
     let mut k: usize = 0;
     while k < records {
         let at = 16 * k;
-        let answer = check_record(pool, limits, met, least, &plan[at..at + 16]);
+        let answer = check_record(pool, limits, before, &plan[at..at + 16]);
         match answer {
-            RecordAnswer::Accepted(passed) => {
-                met = passed.met;
-                least = passed.first + 1;
-                served += passed.members;
+            RecordAnswer::Accepted(next) => {
+                before = next;
             }
             RecordAnswer::Refused(cause) => {
                 return Checked::Refused(Refusal { cause, at: k });
@@ -68,5 +69,5 @@ fn check_records(pool: Pool, limits: Limits, plan: &[u8]) -> Checked
         }
         k += 1;
     }
-    Checked::Served(served)
+    Checked::Served(before.served)
 }

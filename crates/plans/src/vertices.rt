@@ -1,91 +1,64 @@
-// The vertices that a plan record lists, and what the checker tests of them.
-use pool::VertexSet;
+// What the checker tests of the vertices that a plan record lists: causes 12 to 14.
+use pool::Pool;
+use sets::VertexSet;
 ghost use mathlib.Core.Path.{_≡_};
-ghost use Prim.Native.Nat.{_<_};
+ghost use Prim.Native.Nat.{_≤_, _<_};
 ghost use lib.ListN.{length};
 ghost use Rattle.kep.specs.Lists.{Each};
-ghost use Rattle.plans.specs.Check.{verticesOf, allBelow, allFiller, noneLower};
-ghost use Rattle.plans.specs.inner.CheckSteps.{freshIn, added};
+ghost use Rattle.pool.specs.Value.{graphOf};
+ghost use Rattle.plans.specs.Check.{rising};
+ghost use Rattle.plans.specs.inner.CheckSteps.{listedCount, metWith};
 
-// How many vertices a record of sixteen bytes lists: the bytes before the first 255, of its bytes 0 to 13.
-pub(crate) fn vertex_count(bytes: &[u8]) -> usize
+// Cause 12: how many vertices of the pool the bytes 0 to 13 list, filled up with 255; 0 where they are no such list.
+pub(crate) fn count_listed(pool: Pool, bytes: &[u8]) -> usize
+    requires { ⌜ pool .size ≤ 14 ⌝ }
     requires { ⌜ length (now bytes) ≡ 16 ⌝ }
-    ensures { λ r. ⌜ r ≡ length (verticesOf (now (bytes .entry))) ⌝ }
+    ensures { λ r. ⌜ r ≡ listedCount (graphOf pool) (now (bytes .entry)) ⌝ }
 {
     let mut count: usize = 0;
     while count < 14 {
-        if bytes[count] == 255 {
-            return count;
+        if pool.size <= bytes[count] {
+            break;
         }
         count += 1;
+    }
+    let mut end = count;
+    while end < 14 {
+        if bytes[end] != 255 {
+            return 0;
+        }
+        end += 1;
     }
     count
 }
 
-// Are these vertices of a pool of this size?
-pub(crate) fn all_below(size: u8, vertices: &[u8]) -> bool
-    ensures { λ r. ⌜ r ≡ allBelow size (now (vertices .entry)) ⌝ }
-{
-    let mut i: usize = 0;
-    while i < vertices.len() {
-        if size <= vertices[i] {
-            return false;
-        }
-        i += 1;
-    }
-    true
-}
-
-// Are these bytes all 255?
-pub(crate) fn all_filler(bytes: &[u8]) -> bool
-    ensures { λ r. ⌜ r ≡ allFiller (now (bytes .entry)) ⌝ }
-{
-    let mut i: usize = 0;
-    while i < bytes.len() {
-        if bytes[i] != 255 {
-            return false;
-        }
-        i += 1;
-    }
-    true
-}
-
-// Cause 13: was none of the vertices met before, here or in an earlier record?
-pub(crate) fn all_new(met: VertexSet, vertices: &[u8]) -> bool
+// Cause 13: the vertices met before, here or in an earlier record, with these; the empty set where one of them was met before.
+pub(crate) fn meet(met: VertexSet, vertices: &[u8]) -> VertexSet
     requires { ⌜ Each (λ x. x < 16) (now vertices) ⌝ }
-    ensures { λ r. ⌜ r ≡ freshIn (met .0) (now (vertices .entry)) ⌝ }
-{
-    let mut seen = met;
-    let mut i: usize = 0;
-    while i < vertices.len() {
-        let vertex = vertices[i];
-        if seen.0 & (1u16 << vertex) != 0 {
-            return false;
-        }
-        seen = seen.with(vertex);
-        i += 1;
-    }
-    true
-}
-
-// The vertices met, with these.
-pub(crate) fn with_all(met: VertexSet, vertices: &[u8]) -> VertexSet
-    requires { ⌜ Each (λ x. x < 16) (now vertices) ⌝ }
-    ensures { λ r. ⌜ r .0 ≡ added (met .0) (now (vertices .entry)) ⌝ }
+    ensures { λ r. ⌜ r .0 ≡ metWith (met .0) (now (vertices .entry)) ⌝ }
 {
     let mut all = met;
     let mut i: usize = 0;
     while i < vertices.len() {
-        all = all.with(vertices[i]);
+        let vertex = vertices[i];
+        if all.has(vertex) {
+            return VertexSet(0);
+        }
+        all = all.with(vertex);
         i += 1;
     }
     all
 }
 
-// Is none of the vertices lower than the first?
-pub(crate) fn none_lower(first: u8, vertices: &[u8]) -> bool
-    ensures { λ r. ⌜ r ≡ noneLower first (now (vertices .entry)) ⌝ }
+// Cause 14: is the first vertex high enough, and no other lower?
+pub(crate) fn rises(least: u8, vertices: &[u8]) -> bool
+    requires { ⌜ 1 ≤ length (now vertices) ⌝ }
+    ensures { λ r. ⌜ r ≡ rising least (now (vertices .entry)) ⌝ }
 {
+    let first = vertices[0];
+    if first < least {
+        return false;
+    }
     let mut i: usize = 0;
     while i < vertices.len() {
         if vertices[i] < first {

@@ -9,6 +9,7 @@ use Rattle.pool.specs.declared.refusal.Refusal.{Refusal}
 use Rattle.pool.specs.declared.refusal.Verdict.{Verdict}
 use Rattle.pool.specs.declared.refusal.Verdict.the-variants as verdict
 use Rattle.kep.specs.Lists.{Each, none, also}
+use Rattle.pool.specs.Causes.{Pass}
 use Rattle.pool.specs.Refusals.{numberOf, Outcome, accepted, refused, outcomeOf, tested, andThen}
 use Rattle.kep.proofs.Tests.{from-true, from-false}
 use Rattle.kep.proofs.Each.{each-first}
@@ -56,12 +57,9 @@ tested-then {A} {B} (t ∷ ts) at o f = go (t .1) (tested-then ts at o f)
     go false ih = refl
 
 -- where all tests passed, the outcome is that of the rest; a refusal stays, whatever the rest is
-module _ {A B : Type 0} (a : A) (ts : List (ℕ × Bool)) (at : ℕ) where
-  pub goes-on : {b : A} → tested ts at (accepted a) ≡ accepted b → (rest : Outcome B) → tested ts at rest ≡ rest
-  goes-on e rest = tested-then ts at (accepted a) (λ _. rest) ∙ ap (λ o. andThen o (λ _. rest)) e
-
-  pub stops : {n i : ℕ} → tested ts at (accepted a) ≡ refused n i → (rest : Outcome B) → tested ts at rest ≡ refused n i
-  stops e rest = tested-then ts at (accepted a) (λ _. rest) ∙ ap (λ o. andThen o (λ _. rest)) e
+pub with-rest : {A B : Type 0} (a : A) (ts : List (ℕ × Bool)) (at : ℕ) {o : Outcome A} → tested ts at (accepted a) ≡ o → (rest : Outcome B)
+    → tested ts at rest ≡ andThen o (λ _. rest)
+with-rest a ts at e rest = tested-then ts at (accepted a) (λ _. rest) ∙ ap (λ o. andThen o (λ _. rest)) e
 
 -- where something was accepted, every test holds, and the rest accepted it
 pub all-held : {A : Type 0} {a : A} (ts : List (ℕ × Bool)) (at : ℕ) (o : Outcome A) → tested ts at o ≡ accepted a → Each (λ t. T (t .1)) ts × (o ≡ accepted a)
@@ -87,9 +85,6 @@ pub outcome-refused : {A : Type 0} {v : Verdict} (a : A) {o : Outcome A} {r : Re
 outcome-refused a e f = sym (ap (λ (w : Verdict). outcomeOf w a) e) ∙ f
 
 -- ---- tests known one by one
-
-abbrev pub Pass : ℕ × Bool → Type 0
-Pass t = T (t .1)
 
 module _ {A : Type 0} (at : ℕ) (rest : Outcome A) where
   -- where all hold, the outcome is that of the rest

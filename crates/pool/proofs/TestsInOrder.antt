@@ -1,17 +1,13 @@
 -- Calls that make their tests in order refuse by the first that fails. One way for all of them.
 use mathlib.Core.Bool.{Bool, true, false}
 use mathlib.Core.List.{List, [], _∷_}
-use mathlib.Core.Path.{_≡_, sym, _∙_}
+use mathlib.Core.Path.{_≡_, sym, ap, _∙_}
 use Prim.Native.Nat.{ℕ, _<_}
 use native.Mathlib.Omega.{arith}
 use lib.Dec.{T, leb, leb→le}
-use Rattle.pool.specs.Refusals.{Outcome, accepted, refused, tested}
+use Rattle.pool.specs.Causes.{FirstFails, here, later}
+use Rattle.pool.specs.Refusals.{Outcome, accepted, refused, tested, leftBy}
 use Rattle.pool.proofs.Tested.{passes, fails, not-both}
-
--- the first test that fails has number n
-pub data FirstFails : List (ℕ × Bool) → ℕ → Type 0 where
-  here : {n : ℕ} {b : Bool} {ts : List (ℕ × Bool)} → (T b → ⊥) → FirstFails ((n, b) ∷ ts) n
-  later : {n k : ℕ} {b : Bool} {ts : List (ℕ × Bool)} → T b → FirstFails ts n → FirstFails ((k, b) ∷ ts) n
 
 -- by it the call refuses
 pub refuses : {A : Type 0} (ts : List (ℕ × Bool)) (at : ℕ) (rest : Outcome A) {n : ℕ} → FirstFails ts n → refused n at ≡ tested ts at rest
@@ -31,3 +27,7 @@ alone a k b i {n} {at} {o} e = go b e
 -- less is lent than is needed
 pub short : {need lent : ℕ} → lent < need → T (leb need lent) → ⊥
 short {need} {lent} h t = omega (arith, leb→le need lent t)
+
+-- what a call tells decides what it leaves in the memory that it is lent
+pub tells : {A B : Type 0} {o told : Outcome A} (new : A → B) (old : B) → told ≡ o → (told ≡ o) × (leftBy told new old ≡ leftBy o new old)
+tells new old e = (e, ap (λ o. leftBy o new old) e)

@@ -4,72 +4,42 @@ use mathlib.Core.List.{List}
 use mathlib.Core.Logic.{_↔_}
 use mathlib.Core.Path.{_≡_, sym}
 use Prim.Native.Nat.{ℕ, _-_, _*_, _%_, _^_, _≤_, _<_}
-use native.Mathlib.Decide.{decLe}
+use native.Mathlib.Decide.{decLt}
 use native.Mathlib.Omega.{arith}
 use lib.Bits.{bitAnd}
 use lib.Dec.{T, ltb, leb, ltb→lt, lt→ltb, leb→le, le→leb}
-use lib.ListN.{getD}
-use lib.Pow.{ones-lt, pow-pos}
-use borrow.Author.Tests.{lt-ltb, le-ltb}
+use lib.ListN.{length, getD, List·getD-eq-default}
+use lib.Pow.{pow-mono}
 use Rattle.pool.specs.declared.value.Pool.{Pool}
-use Rattle.kep.specs.Sets.{has, counted, Part}
-use Rattle.kep.specs.Graph.{WellFormed}
+use Rattle.kep.specs.Sets.{has, counted, setWhere, Part}
+use Rattle.kep.specs.Graph.{WellFormed, givers}
 use Rattle.pool.specs.Value.{graphOf, arcAllowed, takersFit, arcsFit, poolFits}
-use Rattle.kep.proofs.Tests.{and-iff, and-iff₃, implies-iff, is-true, is-false}
+use Rattle.kep.proofs.Tests.{and-iff₃, implies-iff, is-true, is-false}
 use Rattle.kep.proofs.ListLaws.{all-below}
-use Rattle.kep.proofs.SetLaws.{has-full, has-below, not-in-empty}
-use Rattle.kep.proofs.Parts.{in-rest, part-and, part-of-and}
+use Rattle.kep.proofs.SetLaws.{has-below, not-in-empty}
+use Rattle.kep.proofs.Parts.{part-and, part-of-and}
+use Rattle.kep.proofs.Vertices.{in-where}
 use Rattle.kep.proofs.Operations.{one-shl}
-
--- the vertices below n
-pub in-full : (n v : ℕ) → T (has (2 ^ n - 1) v) ↔ (v < n)
-in-full n v = (has-below n (2 ^ n - 1) v (ones-lt n), has-full n v)
-
--- the vertices from h on and below n
-pub in-between : (h n v : ℕ) → h ≤ n → T (has (2 ^ n - 2 ^ h) v) ↔ ((h ≤ v) × (v < n))
-in-between h n v l =
-    let inside : Part (2 ^ h - 1) (2 ^ n - 1) = record { within = λ x t. in-full n x .1 (omega (arith, in-full h x .0 t)) } in
-    let rest : 2 ^ n - 2 ^ h ≡ 2 ^ n - 1 - (2 ^ h - 1) = omega (arith, pow-pos h, pow-pos n) in
-    let (to, from) = in-rest inside v in
-    rw rest (
-      λ t. let (a, b) = to t in (not-below (λ k. b (in-full h v .1 k)), in-full n v .0 a),
-      λ p. from (in-full n v .1 (p .1), λ t. omega (arith, in-full h v .0 t)),
-    )
-  where
-    not-below : (v < h → ⊥) → h ≤ v
-    not-below f = elim (decLe h v) [ yes k ↦ k | no k ↦ absurd (f (omega arith)) ]
+use Rattle.kep.proofs.SetLoops.{where-reach}
 
 -- the takers allowed: the members where u is a place, and else nobody
 abbrev pub takersAllowed : ℕ → ℕ → ℕ → ℕ
-takersAllowed size altruists u = counted (ltb u size) (2 ^ size - 2 ^ altruists)
+takersAllowed size altruists u = counted (ltb u size) (setWhere 16 (λ v. leb altruists v && ltb v size))
 
--- as code works them out
-pub allowed-place : (size altruists u : ℕ) {allowed : ℕ} → size < 16 → altruists ≤ size → u < size → allowed ≡ 1 * 2 ^ size % 2 ^ 16 - 1 * 2 ^ altruists % 2 ^ 16
-    → allowed ≡ takersAllowed size altruists u
-allowed-place size altruists u w l h e = rw (lt-ltb u size h, ← one-shl 16 size w, ← one-shl 16 altruists (omega arith)) e
-
-pub allowed-none : (size altruists u : ℕ) {allowed : ℕ} → size ≤ u → allowed ≡ 0 → allowed ≡ takersAllowed size altruists u
-allowed-none size altruists u h e = rw (le-ltb u size h) e
-
-module _ (size altruists : ℕ) (gives : List ℕ) (l : altruists ≤ size) where
-  in-allowed : (u v : ℕ) → T (has (takersAllowed size altruists u) v) ↔ T (arcAllowed size altruists u v)
-  in-allowed u v = go (ltb u size)
+module _ (size altruists : ℕ) (gives : List ℕ) where
+  in-allowed : (u v : ℕ) → v < 16 → T (has (takersAllowed size altruists u) v) ↔ T (arcAllowed size altruists u v)
+  in-allowed u v l = go (ltb u size)
     where
-      go : (a : Bool) → T (has (counted a (2 ^ size - 2 ^ altruists)) v) ↔ T (a && leb altruists v && ltb v size)
-      go true =
-          let (to, from) = in-between altruists size v l in
-          let (both, one) = and-iff (leb altruists v) (ltb v size) in (
-            λ t. let (a, b) = to t in one (le→leb altruists v a, lt→ltb v size b),
-            λ t. let (a, b) = both t in from (leb→le altruists v a, ltb→lt v size b),
-          )
+      go : (a : Bool) → T (has (counted a (setWhere 16 (λ v. leb altruists v && ltb v size))) v) ↔ T (a && leb altruists v && ltb v size)
+      go true = let (to, from) = in-where 16 (λ v. leb altruists v && ltb v size) v in (λ t. to t .1, λ t. from (l, t))
       go false = (not-in-empty v, λ t. absurd t)
 
   -- the arcs from u are allowed where its takers are a part of those
   takers-part : (u : ℕ) → getD gives u 0 < 2 ^ 16 → T (takersFit size altruists gives u) ↔ Part (getD gives u 0) (takersAllowed size altruists u)
   unfolding takersFit
   takers-part u b = (
-    λ t. record { within = λ v h. in-allowed u v .1 (implies v .0 (all-below fits 16 .0 t v (has-below 16 (getD gives u 0) v b h)) h) },
-    λ p. all-below fits 16 .1 (λ v _. implies v .1 (λ h. in-allowed u v .0 (p .within v h))),
+    λ t. record { within = λ v h. let l = has-below 16 (getD gives u 0) v b h in in-allowed u v l .1 (implies v .0 (all-below fits 16 .0 t v l) h) },
+    λ p. all-below fits 16 .1 (λ v l. implies v .1 (λ h. in-allowed u v l .0 (p .within v h))),
   )
     where
       fits : ℕ → Bool
@@ -117,6 +87,18 @@ module _ (p : Pool) where
         λ h. from (lt→ltb u (p .size) (h .0), lt→ltb v (p .size) (h .1), h .2),
       )
 
+  -- a value has room for 14 places, so the givers of v are among the first 14 vertices
+  pub givers-found : (v : ℕ) → length (p .gives) ≡ 14 → setWhere 14 (λ u. graphOf p .arc u v) ≡ givers (graphOf p) v
+  unfolding givers
+  givers-found v room = where-reach 14 (p .size) (λ u. graphOf p .arc u v) (λ u t. let (here, _, arc) = arc-iff u v .0 t in (inside u arc, here))
+    where
+      inside : (u : ℕ) → T (has (getD (p .gives) u 0) v) → u < 14
+      inside u arc =
+          elim (decLt u 14) [
+            | yes l ↦ l
+            | no n ↦ absurd (not-in-empty v (rw (List·getD-eq-default (p .gives) 0 {n = u} (omega arith)) at arc))
+          ]
+
   module _ (fits : T (poolFits p)) where
     pub fits-size : p .size ≤ 14
     fits-size = fits-iff p .0 fits .0
@@ -140,3 +122,10 @@ module _ (p : Pool) where
             let here = all-below (λ x. not (has (getD (p .gives) u 0) x) || arcAllowed (p .size) (p .altruists) u x) 16 .0 allowed v (omega (arith, fits-size)) in
             let (a, b, c) = and-iff₃ (ltb u (p .size)) (leb (p .altruists) v) (ltb v (p .size)) .0 (implies-iff (has (getD (p .gives) u 0) v) (arcAllowed (p .size) (p .altruists) u v) .0 here h) in
             leb→le (p .altruists) v b
+
+    -- a table has as many entries as there are sets, and a set has 14 bits
+    pub entries-are : 1 * 2 ^ p .size % 2 ^ 64 ≡ 2 ^ p .size
+    entries-are = one-shl 64 (p .size) (omega (arith, fits-size))
+
+    pub entries-few : 2 ^ p .size ≤ 2 ^ 14
+    entries-few = pow-mono fits-size

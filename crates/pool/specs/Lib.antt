@@ -1,5 +1,4 @@
 pub mod Refusals
+pub mod Causes
 pub mod Limits
 pub mod Value
-pub mod Records
-pub mod inner

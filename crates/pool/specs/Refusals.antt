@@ -47,7 +47,7 @@ abbrev pub andThen : {A B : Type 0} → Outcome A → (A → Outcome B) → Outc
 andThen (accepted a) f = f a
 andThen (refused number at) f = refused number at
 
--- what lent memory holds afterwards: `new` where the call accepted, else what it held
-abbrev pub leftBy : {A B : Type 0} → Outcome A → B → B → B
-leftBy (accepted a) new old = new
+-- what lent memory holds afterwards: something new where the call accepted, else what it held
+abbrev pub leftBy : {A B : Type 0} → Outcome A → (A → B) → B → B
+leftBy (accepted a) new old = new a
 leftBy (refused number at) new old = old

@@ -18,6 +18,7 @@ graphOf p = record {
   arc = λ u v. ltb u (p .size) && ltb v (p .size) && has (getD (p .gives) u 0) v;
 }
 
+-- the pool with no place
 abbrev pub emptyPool : Pool
 emptyPool = record { size = 0; altruists = 0; gives = replicate 14 0 }
 
@@ -29,17 +30,16 @@ arcAllowed size altruists u v = ltb u size && leb altruists v && ltb v size
 
 -- every arc from u is; a set has room for 16 places
 unfoldable pub takersFit : ℕ → ℕ → List ℕ → ℕ → Bool
-unfolding all upto has
 takersFit size altruists gives u = all (λ v. not (has (getD gives u 0) v) || arcAllowed size altruists u v) (upto 16 0)
 
 -- every arc is; a value has room for 14 places
 unfoldable pub arcsFit : ℕ → ℕ → List ℕ → Bool
-unfolding takersFit
 arcsFit size altruists gives = all (takersFit size altruists gives) (upto 14 0)
 
+-- a pool value that is one
 abbrev pub poolFits : Pool → Bool
 poolFits p = leb (p .size) 14 && leb (p .altruists) (p .size) && arcsFit (p .size) (p .altruists) (p .gives)
 
+-- the test of a pool value by itself
 unfoldable pub testPool : Pool → Outcome Pool
-unfolding tested
 testPool p = tested ((6, poolFits p) ∷ []) 0 (accepted p)

@@ -1,18 +1,13 @@
-// Layer one of document 01: records and arcs. Pool bytes become a pool value, or a refusal by number and spot.
+// Layer one of document 01: a pool as a value, the limits, and the causes of refusal by number and spot.
+mod givers;
 mod limits;
-mod reading;
-mod records;
 mod refusal;
-mod takers;
 mod value;
-mod vertex_set;
 
+pub use givers::all_givers;
 pub use limits::Limits;
 pub use limits::LimitsAnswer;
-pub use reading::PoolAnswer;
-pub use reading::read_pool;
 pub use refusal::Cause;
 pub use refusal::Refusal;
 pub use refusal::Verdict;
 pub use value::Pool;
-pub use vertex_set::VertexSet;

@@ -2,11 +2,16 @@
 use crate::refusal::Cause;
 use crate::refusal::Refusal;
 use crate::refusal::Verdict;
+use sets::VertexSet;
+ghost use mathlib.Core.Bool.{_&&_};
 ghost use mathlib.Core.Path.{_≡_};
-ghost use Prim.Native.Nat.{_≤_};
-ghost use lib.ListN.{length};
+ghost use Prim.Native.Nat.{_≤_, _<_};
+ghost use lib.Dec.{ltb, leb};
+ghost use lib.ListN.{length, getD};
+ghost use Rattle.kep.specs.Graph.{isMember};
+ghost use Rattle.kep.specs.Sets.{has, setWhere};
 ghost use Rattle.pool.specs.Refusals.{outcomeOf};
-ghost use Rattle.pool.specs.Value.{testPool, poolFits, arcsFit, emptyPool};
+ghost use Rattle.pool.specs.Value.{graphOf, testPool, poolFits, arcsFit, emptyPool};
 
 pub struct Pool {
     // The places: vertices 0 to size - 1.
@@ -43,6 +48,24 @@ impl Pool {
         }
     }
 
+    // Does u give to v?
+    pub fn arc(self, u: u8, v: u8) -> bool
+        ensures { λ r. ⌜ r ≡ graphOf self .arc u v ⌝ }
+    {
+        let gives = self.gives;
+        if 13 < u {
+            return false;
+        }
+        has_arc(self.size, &gives, u, v)
+    }
+
+    // All members, of the places that a set has room for.
+    pub fn members(self) -> VertexSet
+        ensures { λ r. ⌜ r .0 ≡ setWhere 16 (isMember (graphOf self)) ⌝ }
+    {
+        VertexSet(between(self.altruists, self.size))
+    }
+
     fn fits(self) -> bool
         ensures { λ r. ⌜ r ≡ poolFits self ⌝ }
     {
@@ -59,6 +82,21 @@ impl Pool {
     }
 }
 
+// The same of a value's parts, for loops over many arcs.
+pub(crate) fn has_arc(size: u8, gives: &[u16], u: u8, v: u8) -> bool
+    requires { ⌜ u < length (now gives) ⌝ }
+    ensures { λ r. ⌜ r ≡ (ltb u size && ltb v size && has (getD (now (gives .entry)) u 0) v) ⌝ }
+{
+    if size <= u {
+        return false;
+    }
+    if size <= v {
+        return false;
+    }
+    let giver = u as usize;
+    VertexSet(gives[giver]).has(v)
+}
+
 // Do all arcs lead from places that are there to members?
 fn arcs_fit(size: u8, altruists: u8, gives: &[u16]) -> bool
     requires { ⌜ size ≤ 14 ⌝ }
@@ -66,7 +104,7 @@ fn arcs_fit(size: u8, altruists: u8, gives: &[u16]) -> bool
     requires { ⌜ length (now gives) ≡ 14 ⌝ }
     ensures { λ r. ⌜ r ≡ arcsFit size altruists (now (gives .entry)) ⌝ }
 {
-    let members = (1u16 << size) - (1u16 << altruists);
+    let members = between(altruists, size);
     let places = size as usize;
     let mut u: usize = 0;
     while u < 14 {
@@ -78,4 +116,22 @@ fn arcs_fit(size: u8, altruists: u8, gives: &[u16]) -> bool
         u += 1;
     }
     true
+}
+
+// The vertices from the least on, before the end.
+fn between(least: u8, end: u8) -> u16
+    ensures { λ r. ⌜ r ≡ setWhere 16 (λ u. leb least u && ltb u end) ⌝ }
+{
+    let inside = below(end);
+    inside - (below(least) & inside)
+}
+
+// The vertices before the end.
+fn below(end: u8) -> u16
+    ensures { λ r. ⌜ r ≡ setWhere 16 (λ u. ltb u end) ⌝ }
+{
+    if 15 < end {
+        return 65535;
+    }
+    (1u16 << end) - 1
 }

@@ -1,4 +1,5 @@
 -- Laws of text that grows word by word.
+use mathlib.Core.Bool.{Bool, true, false}
 use mathlib.Core.List.{List, [], _∷_, _++_, append-assoc, append-nil}
 use mathlib.Core.Path.{_≡_, refl, sym, ap, _∙_}
 use Prim.Native.Nat.{ℕ, suc, _+_, _≤_}
@@ -30,6 +31,18 @@ adds-stored old at byte h =
       short = omega arith;
       same = long;
     }
+
+-- nothing
+pub adds-none : {room : ℕ} (old : List ℕ) (at : ℕ) → at ≤ length old → Adds room old old at at []
+adds-none old at h = record { added = sym (append-nil (take at old)); inside = h; short = omega arith; same = refl }
+
+-- a byte that is stored or not, by a test
+module _ (old : List ℕ) (at byte : ℕ) (h : at + 1 ≤ length old) {new : List ℕ} {end : ℕ} where
+  pub stored-if : {b : Bool} → b ≡ true → new ≡ set old at byte → end ≡ at + 1 → Adds 1 old new at end (elim b [ true ↦ byte ∷ [] | false ↦ [] ])
+  stored-if t e f = rw (t, e, f) (adds-stored old at byte h)
+
+  pub stored-not : {b : Bool} → b ≡ false → new ≡ old → end ≡ at → Adds 1 old new at end (elim b [ true ↦ byte ∷ [] | false ↦ [] ])
+  stored-not t e f = rw (t, e, f) (adds-none old at (omega arith))
 
 -- one word after another
 pub then : {room more : ℕ} {a b c : List ℕ} {i j k : ℕ} {word next : List ℕ} → Adds room a b i j word → Adds more b c j k next

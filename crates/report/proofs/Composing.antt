@@ -14,20 +14,22 @@ use Rattle.pool.specs.declared.value.Pool.{Pool}
 use Rattle.pool.specs.declared.limits.Limits.{Limits}
 use Rattle.pool.specs.Limits.{limitsFit}
 use Rattle.kep.specs.Lists.{cut, Each, none, also, flat}
-use Rattle.pool.specs.Records.{readPool}
+use Rattle.reading.specs.Records.{readPool}
 use Rattle.pool.specs.Refusals.{Outcome, accepted, refused, tested}
 use Rattle.pool.specs.Value.{graphOf, poolFits}
-use Rattle.pool.proofs.Tested.{Pass, passes, all-pass, not-both}
+use Rattle.pool.proofs.Tested.{passes, all-pass, not-both}
+use Rattle.pool.specs.Causes.{Pass}
 use Rattle.pool.proofs.ValueLaws.{fits-size}
 use Rattle.kep.specs.Table.{served}
 use Rattle.tables.specs.Calls.{worthIn}
 use Rattle.plans.specs.Check.{recordsIn}
-use Rattle.clearing.specs.Clearing.{clearTests, clearableValue, clearOutcome, planOf, planWritten, planCleared}
+use Rattle.clearing.specs.Clearing.{clearTests, clearableValue}
+use Rattle.clearing.specs.computed.Cleared.{clearOutcome, planOf, planWritten, planCleared}
 use Rattle.kep.specs.Plan.{recordForm}
 use Rattle.kep.proofs.Answer.{answer-legal}
 use Rattle.kep.proofs.ExchangeFacts.{small-fits}
 use Rattle.clearing.proofs.ChoosingCode.{form-length}
-use Rattle.report.specs.Text.{servedLine, refusedLine, recordLines, planText, outcomeText, limitsIn, printed, wholeText, Told, whole, tooShort, toldOf, leftOf}
+use Rattle.report.specs.Text.{servedLine, refusedLine, recordLines, planText, outcomeText, limitsIn, printed, wholeText, TextAnswer, whole, tooShort, toldOf, leftOf}
 use Rattle.report.specs.inner.Writing.{Adds, clearedText}
 
 -- ---- a pool file and limits of any length
@@ -141,7 +143,7 @@ pub text-length : {room : ℕ} {old new text : List ℕ} {end : ℕ} → Adds ro
 text-length {new = new} {end = end} x = sym (length-take-le end new (x .inside)) ∙ ap length (x .added)
 
 -- what the call promises of a text
-abbrev pub Reports : List ℕ → List ℕ → Told → List ℕ → Type 0
+abbrev pub Reports : List ℕ → List ℕ → TextAnswer → List ℕ → Type 0
 Reports text out told left = (told ≡ toldOf text (length out)) × ((left ≡ leftOf text out) × (length text ≤ 1024))
 
 module _ (text out : List ℕ) (short : length text ≤ 1024) where
@@ -166,6 +168,6 @@ module _ (text out : List ℕ) (short : length text ≤ 1024) where
 pub told-inside : (text : List ℕ) (room : ℕ) {end : ℕ} → whole end ≡ toldOf text room → end ≤ room
 told-inside text room {end} = go (leb (length text) room) (λ t. leb→le (length text) room t)
   where
-    go : (b : Bool) → (T b → length text ≤ room) → whole end ≡ elim b as (λ _. Told) [ true ↦ whole (length text) | false ↦ tooShort ] → end ≤ room
+    go : (b : Bool) → (T b → length text ≤ room) → whole end ≡ elim b as (λ _. TextAnswer) [ true ↦ whole (length text) | false ↦ tooShort ] → end ≤ room
     go true h e = let same : end ≡ length text = cc in omega (arith, h tt)
     go false h e = let never : _≡_ {A = ℕ} 0 1 = cc in absurd (omega arith)

@@ -4,13 +4,14 @@ use mathlib.Core.Path.{_≡_, ap, _∙_}
 use mathlib.Core.Logic.{_≢_}
 use Prim.Native.Nat.{ℕ, suc, _+_, _-_, _*_, _≤_, _<_}
 use native.Mathlib.Omega.{arith}
-use lib.ListN.{length, drop, getD, drop-of-length-le}
-use lib.Seq.{drop-cons}
+use lib.ListN.{length, drop, getD}
 use borrow.Author.Tests.{eq-eqb, ne-eqb}
 use Rattle.kep.specs.Lists.{cut}
 use Rattle.kep.proofs.Cut.{cut-from, cut-none}
+use Rattle.kep.proofs.Rest.{rest-next, rest-none}
 use Rattle.plans.specs.Check.{listed}
 use Rattle.plans.specs.Record.{recordAt}
+use Rattle.plans.proofs.Records.{listed-filler, listed-vertex}
 use Rattle.report.specs.Text.{kindWord, placeText, placesText, recordLine, recordLines}
 
 -- ---- the kind
@@ -23,16 +24,6 @@ pub ring-word : (kind : ℕ) → kind ≢ 67 → 114 ∷ 105 ∷ 110 ∷ 103 ∷
 unfolding kindWord
 ring-word kind n = rw (ne-eqb kind 67 n, kindWord)
 
--- ---- the bytes before the first 255
-
-listed-filler : (b : ℕ) (bs : List ℕ) → b ≡ 255 → listed (b ∷ bs) ≡ []
-unfolding listed
-listed-filler b bs e = rw (eq-eqb b 255 e, listed)
-
-listed-vertex : (b : ℕ) (bs : List ℕ) → b ≢ 255 → listed (b ∷ bs) ≡ b ∷ listed bs
-unfolding listed
-listed-vertex b bs n = rw (ne-eqb b 255 n, listed)
-
 -- ---- the places that are listed from byte i on
 
 abbrev pub placesFrom : List ℕ → ℕ → List ℕ
@@ -41,23 +32,19 @@ placesFrom bytes i = placesText (listed (drop i bytes))
 module _ (bytes : List ℕ) (i : ℕ) where
   pub places-end : length bytes ≤ i → placesFrom bytes i ≡ []
   unfolding listed placesText
-  places-end h = ap (λ bs. placesText (listed bs)) (drop-of-length-le bytes h)
+  places-end h = ap (λ bs. placesText (listed bs)) (rest-none bytes i h)
 
   module _ (h : i < length bytes) where
-    from-here : placesFrom bytes i ≡ placesText (listed (getD bytes i 0 ∷ drop (suc i) bytes))
-    from-here = ap (λ bs. placesText (listed bs)) (drop-cons bytes i 0 h)
+    from-here : placesFrom bytes i ≡ placesText (listed (getD bytes i 0 ∷ drop (i + 1) bytes))
+    from-here = ap (λ bs. placesText (listed bs)) (rest-next bytes i h)
 
     pub places-stop : getD bytes i 0 ≡ 255 → placesFrom bytes i ≡ []
     unfolding placesText
-    places-stop e = from-here ∙ ap placesText (listed-filler (getD bytes i 0) (drop (suc i) bytes) e)
+    places-stop e = from-here ∙ ap placesText (listed-filler (getD bytes i 0) (drop (i + 1) bytes) e)
 
     pub places-next : getD bytes i 0 ≢ 255 → placesFrom bytes i ≡ placeText (getD bytes i 0) ++ placesFrom bytes (i + 1)
     unfolding placesText
-    places-next n =
-        let next : suc i ≡ i + 1 = omega arith in
-        from-here
-        ∙ ap placesText (listed-vertex (getD bytes i 0) (drop (suc i) bytes) n)
-        ∙ ap (λ k. placeText (getD bytes i 0) ++ placesFrom bytes k) next
+    places-next n = from-here ∙ ap placesText (listed-vertex (getD bytes i 0) (drop (i + 1) bytes) n)
 
 -- ---- the lines of the records from record k on
 

@@ -7,7 +7,9 @@ use native.Mathlib.Omega.{arith}
 use lib.Dec.{T, eqb, leb, leb→le}
 use lib.ListN.{length, length-append}
 use Rattle.pool.specs.Refusals.{Outcome, accepted, refused, tested}
-use Rattle.pool.specs.Records.{recordWidth, mostRecords, fieldTests, recordsTested, poolRecords, poolOf, readPool}
+use Rattle.reading.specs.Records.{fieldTests, recordsTested, readPool}
+use Rattle.reading.specs.computed.Pool.{poolOf}
+use Rattle.reading.specs.Fields.{recordWidth, mostRecords, poolRecords}
 use Rattle.kep.proofs.Cut.{length-cut}
 use Rattle.pool.proofs.Tested.{not-both}
 

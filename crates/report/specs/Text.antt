@@ -7,12 +7,12 @@ use lib.ListN.{length, take, drop, getD}
 use Rattle.pool.specs.declared.value.Pool.{Pool}
 use Rattle.pool.specs.declared.limits.Limits.{Limits}
 use Rattle.pool.specs.Limits.{limitsOf, limitsFit}
-use Rattle.pool.specs.Records.{readPool}
+use Rattle.reading.specs.Records.{readPool}
 use Rattle.pool.specs.Refusals.{Outcome, accepted, refused, tested, andThen}
 use Rattle.pool.specs.Value.{graphOf}
 use Rattle.kep.specs.Table.{served}
 use Rattle.plans.specs.Check.{verticesOf, recordsIn}
-use Rattle.clearing.specs.Clearing.{planOf}
+use Rattle.clearing.specs.computed.Cleared.{planOf}
 use Rattle.kep.specs.Lists.{flat}
 use Rattle.kep.specs.Plan.{recordForm}
 use Rattle.report.specs.declared.reporting.Reported.{Reported}
@@ -20,9 +20,11 @@ use Rattle.report.specs.declared.reporting.Reported.the-variants as repo
 
 -- ---- characters and words, in ASCII
 
+-- one space
 abbrev pub space : List ℕ
 space = 32 ∷ []
 
+-- the end of a line
 abbrev pub lineFeed : List ℕ
 lineFeed = 10 ∷ []
 
@@ -49,38 +51,33 @@ digits (suc k) n = elim (ltb n 10) [ true ↦ (48 + n) ∷ [] | false ↦ digits
 
 -- all of them, for a number below k has no more than k; with no needless zero in front
 unfoldable pub decimal : ℕ → List ℕ
-unfolding digits
 decimal n = digits (suc n) n
 
 -- ---- lines
 
 -- `served S of M`
 unfoldable pub servedLine : ℕ → ℕ → List ℕ
-unfolding decimal
 servedLine s m = servedWord ++ decimal s ++ ofWord ++ decimal m ++ lineFeed
 
 -- `refused N P`
 unfoldable pub refusedLine : ℕ → ℕ → List ℕ
-unfolding decimal
 refusedLine number at = refusedWord ++ decimal number ++ space ++ decimal at ++ lineFeed
 
 -- places in order, each after one space
 unfoldable pub placeText : ℕ → List ℕ
-unfolding decimal
 placeText v = space ++ decimal v
 
+-- of all places of a list
 unfoldable pub placesText : List ℕ → List ℕ
-unfolding placeText
 placesText [] = []
 placesText (v ∷ vs) = placeText v ++ placesText vs
 
 -- of a plan record: `ring` or `chain` and its places
 unfoldable pub recordLine : List ℕ → List ℕ
-unfolding kindWord placesText verticesOf
 recordLine r = kindWord (getD r 14 0) ++ placesText (verticesOf r) ++ lineFeed
 
+-- of all records
 unfoldable pub recordLines : List (List ℕ) → List ℕ
-unfolding recordLine
 recordLines [] = []
 recordLines (r ∷ rs) = recordLine r ++ recordLines rs
 
@@ -88,14 +85,12 @@ recordLines (r ∷ rs) = recordLine r ++ recordLines rs
 
 -- of a pool under limits that fit: the members served of all members, and the records of the plan that clearing answers with
 unfoldable pub planText : Pool → Limits → List ℕ
-unfolding servedLine recordLines
 planText p l =
     servedLine (served (graphOf p) (flat (planOf p l))) (p .size - p .altruists)
     ++ recordLines (recordsIn (recordForm (graphOf p) (planOf p l)))
 
 -- of what was accepted, or of the refusal
 unfoldable pub outcomeText : Outcome Pool → Limits → List ℕ
-unfolding planText refusedLine
 outcomeText (accepted p) l = planText p l
 outcomeText (refused number at) l = refusedLine number at
 
@@ -105,12 +100,10 @@ limitsIn bytes = limitsOf (getD bytes 0 0) (getD bytes 1 0)
 
 -- the pool is refused first; then 7: other than two bytes, or a limit above 14
 unfoldable pub printed : List ℕ → List ℕ → Outcome Pool
-unfolding readPool tested
 printed pool limits = andThen (readPool pool) (λ p. tested ((7, eqb (length limits) 2 && limitsFit (limitsIn limits)) ∷ []) 0 (accepted p))
 
 -- of a whole pool file
 unfoldable pub wholeText : List ℕ → List ℕ → List ℕ
-unfolding outcomeText printed
 wholeText pool limits = outcomeText (printed pool limits) (limitsIn limits)
 
 -- of any pool file: its first 128 bytes count as the whole file
@@ -120,23 +113,27 @@ textOf pool limits = wholeText (take 128 pool) limits
 -- ---- what the call tells and leaves
 
 -- the length of the text, or that the room is too short
-pub data Told : Type 0 where
-  whole : ℕ → Told
-  tooShort : Told
+pub data TextAnswer : Type 0 where
+  whole : ℕ → TextAnswer
+  tooShort : TextAnswer
 
-abbrev pub reportedOf : Reported → Told
+-- what the answer of the call stands for
+abbrev pub reportedOf : Reported → TextAnswer
 reportedOf (reported.Length n) = whole n
 reportedOf reported.TooShort = tooShort
 
-abbrev pub toldOf : List ℕ → ℕ → Told
-toldOf text room = elim (leb (length text) room) as (λ _. Told) [ true ↦ whole (length text) | false ↦ tooShort ]
+-- the answer for a text and so much room
+abbrev pub toldOf : List ℕ → ℕ → TextAnswer
+toldOf text room = elim (leb (length text) room) as (λ _. TextAnswer) [ true ↦ whole (length text) | false ↦ tooShort ]
 
 -- the text at the front of the buffer, if it has room for all of it
 abbrev pub leftOf : List ℕ → List ℕ → List ℕ
 leftOf text out = elim (leb (length text) (length out)) as (λ _. List ℕ) [ true ↦ text ++ drop (length text) out | false ↦ out ]
 
-abbrev pub textOutcome : List ℕ → List ℕ → ℕ → Told
+-- what the call tells of two files
+abbrev pub textOutcome : List ℕ → List ℕ → ℕ → TextAnswer
 textOutcome pool limits room = toldOf (textOf pool limits) room
 
+-- what it leaves in the buffer
 abbrev pub textLeft : List ℕ → List ℕ → List ℕ → List ℕ
 textLeft pool limits out = leftOf (textOf pool limits) out

@@ -3,23 +3,32 @@ use crate::numbers::put_number;
 use crate::writing::put;
 use pool::Refusal;
 ghost use mathlib.Core.Path.{_≡_};
+ghost use mathlib.Core.List.{_++_};
 ghost use Prim.Native.Nat.{_+_, _*_, _≤_, _<_};
 ghost use lib.ListN.{length};
 ghost use Rattle.kep.specs.Lists.{cut};
 ghost use Rattle.pool.specs.Refusals.{numberOf};
 ghost use Rattle.plans.specs.Check.{listed};
-ghost use Rattle.report.specs.Text.{kindWord, placeText, placesText, recordLine, recordLines, servedLine, refusedLine};
+ghost use Rattle.report.specs.Text.{decimal, kindWord, placesText, recordLine, recordLines, servedLine, refusedLine};
 ghost use Rattle.report.specs.inner.Writing.{Adds};
+
+// A word and a number.
+fn put_after(text: &mut [u8], at: usize, word: &[u8], n: usize) -> usize
+    requires { ⌜ n < 1000 ⌝ }
+    requires { ⌜ at + (length (now word) + 3) ≤ length (now text) ⌝ }
+    ensures { λ r. ⌜ Adds (length (now (word .entry)) + 3) (now (text .entry)) (now (text .exit)) at r (now (word .entry) ++ decimal n) ⌝ }
+{
+    let end = put(text, at, word);
+    put_number(text, end, n)
+}
 
 // `served S of M`.
 pub(crate) fn put_served(text: &mut [u8], at: usize, served: u8, members: u8) -> usize
     requires { ⌜ at + 18 ≤ length (now text) ⌝ }
     ensures { λ r. ⌜ Adds 18 (now (text .entry)) (now (text .exit)) at r (servedLine served members) ⌝ }
 {
-    let word = put(text, at, b"served ");
-    let count = put_number(text, word, served as usize);
-    let of = put(text, count, b" of ");
-    let all = put_number(text, of, members as usize);
+    let count = put_after(text, at, b"served ", served as usize);
+    let all = put_after(text, count, b" of ", members as usize);
     put(text, all, b"\n")
 }
 
@@ -32,10 +41,8 @@ pub(crate) fn put_refused(text: &mut [u8], at: usize, refusal: Refusal) -> usize
     let cause = refusal.cause;
     let number = cause.number() as usize;
     let spot = refusal.at;
-    let word = put(text, at, b"refused ");
-    let first = put_number(text, word, number);
-    let gap = put(text, first, b" ");
-    let second = put_number(text, gap, spot);
+    let first = put_after(text, at, b"refused ", number);
+    let second = put_after(text, first, b" ", spot);
     put(text, second, b"\n")
 }
 
@@ -89,16 +96,8 @@ fn put_places(text: &mut [u8], at: usize, places: &[u8]) -> usize
         if place == 255 {
             return end;
         }
-        end = put_place(text, end, place);
+        end = put_after(text, end, b" ", place as usize);
         i += 1;
     }
     end
-}
-
-fn put_place(text: &mut [u8], at: usize, place: u8) -> usize
-    requires { ⌜ at + 4 ≤ length (now text) ⌝ }
-    ensures { λ r. ⌜ Adds 4 (now (text .entry)) (now (text .exit)) at r (placeText place) ⌝ }
-{
-    let space = put(text, at, b" ");
-    put_number(text, space, place as usize)
 }

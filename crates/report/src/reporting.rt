@@ -10,14 +10,14 @@ use pool::Limits;
 use pool::Pool;
 use pool::Refusal;
 use pool::Verdict;
-use pool::read_pool;
+use reading::read_pool;
 ghost use mathlib.Core.Path.{_≡_};
 ghost use Prim.Native.Nat.{_≤_};
 ghost use lib.Dec.{T};
 ghost use lib.ListN.{length};
 ghost use Rattle.pool.specs.Value.{poolFits};
 ghost use Rattle.report.specs.Text.{reportedOf, textOf, textOutcome, textLeft, wholeText};
-ghost use Rattle.report.specs.inner.Writing.{Adds, clearedText, wholeOutcome, wholeLeft};
+ghost use Rattle.report.specs.inner.Writing.{Adds, clearedText};
 
 pub enum Reported {
     // How long the text is that stands at the front of the buffer.
@@ -33,19 +33,12 @@ pub fn report(pool: &[u8], limits: &[u8], out: &mut [u8]) -> Reported
     ensures text { λ _. ⌜ now (out .exit) ≡ textLeft (now (pool .entry)) (now (limits .entry)) (now (out .entry)) ⌝ }
     ensures short { λ _. ⌜ length (textOf (now (pool .entry)) (now (limits .entry))) ≤ 1024 ⌝ }
 {
-    if 128 < pool.len() {
-        return report_whole(&pool[..128], limits, out);
+    let mut end = pool.len();
+    if 128 < end {
+        end = 128;
     }
-    report_whole(pool, limits, out)
-}
-
-fn report_whole(pool: &[u8], limits: &[u8], out: &mut [u8]) -> Reported
-    ensures length { λ r. ⌜ reportedOf r ≡ wholeOutcome (now (pool .entry)) (now (limits .entry)) (length (now (out .entry))) ⌝ }
-    ensures text { λ _. ⌜ now (out .exit) ≡ wholeLeft (now (pool .entry)) (now (limits .entry)) (now (out .entry)) ⌝ }
-    ensures short { λ _. ⌜ length (wholeText (now (pool .entry)) (now (limits .entry))) ≤ 1024 ⌝ }
-{
     let mut text = [0u8; 1024];
-    let length = compose(pool, limits, &mut text);
+    let length = compose(&pool[..end], limits, &mut text);
     if out.len() < length {
         return Reported::TooShort;
     }

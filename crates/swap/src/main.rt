@@ -1,28 +1,29 @@
 // The workshop program of document 01: reads pool.bin and limits.bin from the current folder and prints what the report tells of them.
+// A plan must be made of whole files and be printed whole: for anything else it writes one line to standard error, and no more to standard output.
+mod files;
+
+use files::load;
+use files::write_whole;
 use libc::STDOUT_FILENO;
 use report::Reported;
-ghost use Rattle.io.specs.Counts.{Counts};
 
 fn main() {
     let mut pool = [0u8; 128];
+    let pool_file = load(b"pool.bin", &mut pool);
+    if !pool_file.whole {
+        os::fail(b"swap: pool.bin");
+        return;
+    }
     // A third byte shows that the file is too long.
     let mut limits = [0u8; 3];
-    let pool_length = load(b"pool.bin", &mut pool);
-    let limits_length = load(b"limits.bin", &mut limits);
-    print(&pool[..pool_length], &limits[..limits_length]);
-}
-
-// The first bytes of the file go to the front of the buffer, as many as it has room for; a file that can't be opened reads as empty.
-fn load(path: &[u8], buffer: &mut [u8]) -> usize
-    ensures { λ r. ⌜ Counts r (now (buffer .exit)) ⌝ }
-{
-    let file = os::open_read(path);
-    if file < 0 {
-        return 0;
+    let limits_file = load(b"limits.bin", &mut limits);
+    if !limits_file.whole {
+        os::fail(b"swap: limits.bin");
+        return;
     }
-    let length = io::read_full(file, buffer);
-    libc::close(file);
-    length
+    let pool_length = pool_file.length;
+    let limits_length = limits_file.length;
+    print(&pool[..pool_length], &limits[..limits_length]);
 }
 
 // No text is longer than 1024 bytes.
@@ -31,7 +32,9 @@ fn print(pool: &[u8], limits: &[u8]) {
     let answer = report::report(pool, limits, &mut text);
     match answer {
         Reported::Length(length) => {
-            io::write_all(STDOUT_FILENO, &text[..length]);
+            if !write_whole(STDOUT_FILENO, &text[..length]) {
+                os::fail(b"swap: standard output");
+            }
         }
         Reported::TooShort => {}
     }

@@ -1,6 +1,6 @@
 -- What the code that fills the best table works out: members counted as ones, what a set offers, sums that fit.
 use mathlib.Core.Bool.{Bool, true, false}
-use mathlib.Core.List.{List}
+use mathlib.Core.List.{List, _++_}
 use mathlib.Core.Logic.{_↔_}
 use mathlib.Core.Path.{_≡_, ap, _∙_, fun-ext}
 use Prim.Native.Nat.{ℕ, _+_, _-_, _^_, _≤_, _<_}
@@ -8,24 +8,25 @@ use native.Mathlib.Nat.{le-trans, mul-one}
 use native.Mathlib.Omega.{arith}
 use lib.Bits.{bitAnd}
 use lib.Count.{ones, ones-le}
-use lib.Dec.{T, leb, ltb, leb→le, le→leb, ltb→lt, lt→ltb}
+use lib.Dec.{T, leb, ltb, ltb→lt}
 use lib.ListN.{getD}
-use lib.Pow.{pow-pos}
 use mir.Syntax.{w8, w64}
 use mir.Val.{Fits}
 use borrow.Author.Tests.{eq-eqb, ne-eqb}
 use Rattle.pool.specs.declared.value.Pool.{Pool}
-use Rattle.kep.specs.Sets.{has, worthOf, counted}
+use Rattle.kep.specs.Sets.{has, worthOf, counted, setWhere}
 use Rattle.kep.specs.Graph.{isMember}
 use Rattle.pool.specs.Value.{graphOf}
-use Rattle.kep.specs.Table.{best}
+use Rattle.kep.specs.Lists.{tabulate}
+use Rattle.kep.specs.computed.Table.{best}
 use Rattle.tables.specs.Calls.{marked, membersIn}
-use Rattle.kep.specs.inner.BestFilling.{heldIn, offer}
-use Rattle.kep.proofs.Tests.{and-iff}
+use Rattle.kep.specs.inner.BestFilling.{heldIn, offer, bestOffered}
+use Rattle.kep.proofs.Tests.{and-right}
 use Rattle.kep.proofs.Worth.{worth-le, worth-and}
 use Rattle.kep.proofs.Operations.{where-set}
-use Rattle.pool.proofs.ValueLaws.{in-between}
+use Rattle.kep.proofs.SetLoops.{where-reach}
 use Rattle.kep.proofs.BestTable.{best-worth}
+use Rattle.kep.proofs.BestFilling.{offered-best}
 
 -- ---- members
 
@@ -47,17 +48,19 @@ best-held k members b m s = rw (← held-worth k members (has members) b (λ x _
     few : worthOf worth k s ≤ k
     few = rw mul-one at (worth-le worth k s 1 (λ x _. one (has members x)))
 
--- the members of a pool are the vertices from its altruists on
-pub members-held : (p : Pool) → p .altruists ≤ p .size → membersIn p ≡ heldIn (2 ^ p .size - 2 ^ p .altruists)
-members-held p l = held-worth (p .size) (2 ^ p .size - 2 ^ p .altruists) (isMember (graphOf p)) (omega (arith, pow-pos (p .altruists), pow-pos (p .size))) same
-  where
-    same : (v : ℕ) → v < p .size → T (isMember (graphOf p) v) ↔ T (has (2 ^ p .size - 2 ^ p .altruists) v)
-    same v _ =
-        let (both, one) = and-iff (leb (p .altruists) v) (ltb v (p .size)) in
-        let (to, from) = in-between (p .altruists) (p .size) v l in (
-          λ t. let (x, y) = both t in from (leb→le (p .altruists) v x, ltb→lt v (p .size) y),
-          λ t. let (x, y) = to t in one (le→leb (p .altruists) v x, lt→ltb v (p .size) y),
-        )
+-- so by what each set offers an entry fits a byte
+pub small-entries : (members entries : ℕ) (m : ℕ → Bool) (left : List ℕ) {offers : List ℕ} → members < 2 ^ 64
+    → offers ≡ tabulate (offer (heldIn members) m) entries ++ left → (s : ℕ) → s < entries → bestOffered offers s < 256
+small-entries members entries m left b e s l = omega (arith, offered-best (heldIn members) m entries left e s l, best-held 64 members b m s)
+
+-- the members of a pool, as the set of them
+pub members-held : (p : Pool) → p .size ≤ 16 → membersIn p ≡ heldIn (setWhere 16 (isMember (graphOf p)))
+members-held p l =
+    fun-ext
+    (λ s.
+    worth-and (isMember (graphOf p)) (p .size) s
+    ∙ ap (λ (x : ℕ). ones (bitAnd s x))
+    (where-reach (p .size) 16 (isMember (graphOf p)) (λ u t. let h = ltb→lt u (p .size) (and-right (leb (p .altruists) u) (ltb u (p .size)) t) in (h, omega arith))))
 
 -- ---- what a set offers, by its entry
 

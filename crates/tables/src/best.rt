@@ -5,11 +5,11 @@ use pool::Pool;
 use pool::Refusal;
 use pool::Verdict;
 ghost use mathlib.Core.Path.{_≡_};
-ghost use Prim.Native.Nat.{_≤_, _<_};
+ghost use Prim.Native.Nat.{ℕ, _≤_, _<_};
 ghost use lib.ListN.{length};
-ghost use Rattle.kep.specs.Table.{best};
-ghost use Rattle.tables.specs.Calls.{filledOutcome, writtenTo, marked, bestOutcome, bestLeft};
-ghost use Rattle.kep.specs.inner.BestFilling.{heldIn, offer, nextBest};
+ghost use Rattle.kep.specs.Lists.{writtenTo};
+ghost use Rattle.tables.specs.Calls.{filledOutcome, marked, bestOutcome, bestLeft};
+ghost use Rattle.kep.specs.inner.BestFilling.{heldIn, offer, bestOffered, nextBest};
 
 // Fills the best table from the marks of a lent exchange table, whatever that holds: 6, 8, 9, or the entries written.
 pub fn fill_best(pool: Pool, exchanges: &[u16], table: &mut [u8]) -> Filled
@@ -20,10 +20,7 @@ pub fn fill_best(pool: Pool, exchanges: &[u16], table: &mut [u8]) -> Filled
     if let Verdict::Refused(refusal) = verdict {
         return Filled::Refused(refusal);
     }
-    let size = pool.size;
-    let altruists = pool.altruists;
-    let entries = 1usize << size;
-    let members = entries - (1usize << altruists);
+    let entries = 1usize << pool.size;
     if exchanges.len() < entries {
         return Filled::Refused(Refusal {
             cause: Cause::ExchangeTable,
@@ -36,27 +33,14 @@ pub fn fill_best(pool: Pool, exchanges: &[u16], table: &mut [u8]) -> Filled
             at: 0,
         });
     }
-    fill_entries(members, entries, exchanges, table);
+    let mut offers = [0u8; 16384];
+    let members = pool.members().0 as usize;
+    fill_offers(members, entries, exchanges, &mut offers);
+    fill_entries(entries, &offers, table);
     Filled::Entries(entries)
 }
 
-// Every entry, upward: each from those before it. `members` is the set of all members.
-fn fill_entries(members: usize, entries: usize, exchanges: &[u16], table: &mut [u8])
-    requires { ⌜ entries ≤ 16384 ⌝ }
-    requires { ⌜ entries ≤ length (now exchanges) ⌝ }
-    requires { ⌜ entries ≤ length (now table) ⌝ }
-    ensures { λ _. ⌜ now (table .exit) ≡ writtenTo (best (heldIn members) (marked (now (exchanges .entry)))) entries (now (table .entry)) ⌝ }
-{
-    let mut offers = [0u8; 16384];
-    fill_offers(members, entries, exchanges, &mut offers);
-    let mut s: usize = 0;
-    while s < entries {
-        table[s] = best_entry(s, &offers, table) as u8;
-        s += 1;
-    }
-}
-
-// What each set offers: its members where it is marked, else 0. Every try looks one up, so they are worked out once.
+// What each set offers: those of `members`, the set of all members, that it holds, where it is marked, else 0. Every try looks one up, so they are worked out once.
 fn fill_offers(members: usize, entries: usize, exchanges: &[u16], offers: &mut [u8])
     requires { ⌜ entries ≤ length (now exchanges) ⌝ }
     requires { ⌜ entries ≤ length (now offers) ⌝ }
@@ -67,6 +51,20 @@ fn fill_offers(members: usize, entries: usize, exchanges: &[u16], offers: &mut [
         let held = usize::count_ones(t & members) as u8;
         offers[t] = if exchanges[t] == 0 { 0 } else { held };
         t += 1;
+    }
+}
+
+// Every entry, upward: each from those before it.
+fn fill_entries(entries: usize, offers: &[u8], table: &mut [u8])
+    requires { ⌜ entries ≤ length (now offers) ⌝ }
+    requires { ⌜ entries ≤ length (now table) ⌝ }
+    requires { ⌜ ((s : ℕ) → s < entries → bestOffered (now offers) s < 256) ⌝ }
+    ensures { λ _. ⌜ now (table .exit) ≡ writtenTo (bestOffered (now (offers .entry))) entries (now (table .entry)) ⌝ }
+{
+    let mut s: usize = 0;
+    while s < entries {
+        table[s] = best_entry(s, offers, table) as u8;
+        s += 1;
     }
 }
 

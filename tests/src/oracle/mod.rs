@@ -5,3 +5,4 @@ pub mod check;
 pub mod exchange;
 pub mod plan;
 pub mod pool;
+pub mod set;

@@ -3,6 +3,7 @@
 use super::best::{self, disjoint, test_best_room};
 use super::exchange::{self, is_chain, is_exchange, test_exchange_room, Limits};
 use super::pool::{read, Pool};
+use crate::pools::PoolValue;
 use crate::refusal::{refuse, Refusal};
 use std::slice::from_ref;
 
@@ -61,6 +62,16 @@ pub fn record(pool: &Pool, exchange: &[usize]) -> [u8; 16] {
     record[14] = if pool.is_house(exchange[0]) { 67 } else { 82 };
     record[15] = pool.members_in(exchange) as u8;
     record
+}
+
+/// "Record k of lent plan bytes, or an empty part when fewer than k + 1 whole
+/// records stand there."
+pub fn record_part(plan: &[u8], k: u64) -> &[u8] {
+    let records = (plan.len() / 16) as u128;
+    if records < u128::from(k) + 1 {
+        return &[];
+    }
+    &plan[16 * k as usize..][..16]
 }
 
 /// "A ring begins at its lowest place. Records stand in rising order of first place."
@@ -131,6 +142,18 @@ impl Rooms {
             plan: 16 * places,
         }
     }
+}
+
+/// Clearing a pool value with enough room: the causes 6 and 7, else what it leaves,
+/// by a method of clearing.
+pub fn clear_value(
+    value: &PoolValue,
+    limits: Limits,
+    cleared: impl Fn(&Pool, Limits) -> Cleared,
+) -> Result<Cleared, Refusal> {
+    let pool = Pool::of_value(value)?;
+    limits.test()?;
+    Ok(cleared(&pool, limits))
 }
 
 /// The causes clearing tests: 1 to 5, 7, 8, 9 and 10.

@@ -9,15 +9,16 @@ use lib.ListN.{length, getD, take}
 use Rattle.pool.specs.declared.value.Pool.{Pool}
 use Rattle.pool.specs.declared.limits.Limits.{Limits}
 use Rattle.kep.specs.Lists.{distinct, tabulate, Each}
-use Rattle.kep.specs.Graph.{Graph, givers}
+use Rattle.kep.specs.Graph.{Graph, isMember, givers}
 use Rattle.pool.specs.Limits.{limitsFit}
-use Rattle.kep.specs.Sets.{Part, setOf, lowest}
+use Rattle.kep.specs.Sets.{Part, setOf, setWhere}
+use Rattle.kep.specs.inner.Lowest.{lowest}
 use Rattle.pool.specs.Value.{graphOf, poolFits}
 use Rattle.clearing.specs.declared.seeking.Step.{Step}
-use Rattle.kep.specs.Table.{entry, bestOf}
+use Rattle.kep.specs.computed.Table.{entry, bestOf}
 use Rattle.tables.specs.Calls.{worthIn}
 use Rattle.kep.specs.Plan.{recordOf}
-use Rattle.kep.specs.inner.Paths.{Field, Completes, Completable, Walk}
+use Rattle.kep.specs.inner.Paths.{Field, Completes, Completable, Leftmost}
 use Rattle.clearing.specs.inner.Seeking.{fieldOf}
 
 -- tables that hold their meaning at the front
@@ -51,17 +52,21 @@ goalBy false givers-of = givers-of
 abbrev pub stepOf : Pool → ℕ → Step
 stepOf p free =
     let first = lowest free in
-    record { free = free; members = 2 ^ p .size - 2 ^ p .altruists; goal = goalBy (ltb first (p .altruists)) (givers (graphOf p) first) }
+    record {
+      free = record { 0 = free };
+      members = record { 0 = setWhere 16 (isMember (graphOf p)) };
+      goal = record { 0 = goalBy (ltb first (p .altruists)) (givers (graphOf p) first) };
+    }
 
 abbrev pub poolField : Pool → List ℕ → List ℕ → ℕ → Field
 poolField p exchanges best free = fieldOf (p .gives) (stepOf p free) exchanges best
 
--- what a step tells and writes: nothing completes the lowest free vertex, or this does, which is what the walk gives
-pub data Taken (g : Graph) (f : Field) (bytes : List ℕ) (told : ℕ) (written : List ℕ) : Type 0 where
-  nothing : told ≡ 0 → written ≡ bytes → (Completable f (2 ^ lowest (f .free)) (lowest (f .free)) → ⊥) → Taken g f bytes told written
+-- what a step tells and writes: nothing completes the lowest free vertex, or this does, the leftmost way
+pub data Stepped (g : Graph) (f : Field) (bytes : List ℕ) (told : ℕ) (written : List ℕ) : Type 0 where
+  nothing : told ≡ 0 → written ≡ bytes → (Completable f (2 ^ lowest (f .free)) (lowest (f .free)) → ⊥) → Stepped g f bytes told written
   first :
-      {ys : List ℕ} → Completes f (2 ^ lowest (f .free)) (lowest (f .free)) ys → Walk f (2 ^ lowest (f .free)) (lowest (f .free)) ys
-      → told ≡ setOf (lowest (f .free) ∷ ys) → written ≡ recordOf g (lowest (f .free) ∷ ys) → Taken g f bytes told written
+      {ys : List ℕ} → Completes f (2 ^ lowest (f .free)) (lowest (f .free)) ys → Leftmost f (2 ^ lowest (f .free)) (lowest (f .free)) ys
+      → told ≡ setOf (lowest (f .free) ∷ ys) → written ≡ recordOf g (lowest (f .free) ∷ ys) → Stepped g f bytes told written
 
 -- the vertices of an exchange stand in front in the bytes of a record, and the set is theirs
 pub record Fronted (p : Pool) (xs : List ℕ) (set : ℕ) (bytes : List ℕ) : Type 0 where

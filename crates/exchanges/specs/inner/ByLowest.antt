@@ -2,7 +2,7 @@
 use mathlib.Core.Bool.{Bool, true, false}
 use mathlib.Core.List.{List}
 use mathlib.Core.Path.{_≡_}
-use Prim.Native.Nat.{ℕ, suc, _+_, _-_, _%_, _^_, _<_}
+use Prim.Native.Nat.{ℕ, suc, _+_, _-_, _%_, _^_, _≤_, _<_}
 use lib.Bits.{bitAnd}
 use lib.Count.{ones}
 use lib.Dec.{T, leb}
@@ -27,6 +27,19 @@ pub record Known (g : Graph) (s m : ℕ) (table : List ℕ) : Type 0 where
 pub record Begins (l s : ℕ) : Type 0 where
   pub remainder : s % 2 ^ suc l ≡ 2 ^ l
 
+-- a set of two vertices or more that begins at l and has at most cap
+pub record Allowed (l cap s : ℕ) : Type 0 where
+  pub begins : Begins l s
+  pub more : 2 ^ l < s
+  pub fits : ones s ≤ cap
+
+-- the next that does
+pub record Next (l cap s next : ℕ) : Type 0 where
+  pub further : s < next
+  pub begins : Begins l next
+  pub few : ones next ≤ cap
+  pub many : (i : ℕ) → s < i → i < next → Begins l i → cap < ones i
+
 -- the sets that begin at l have the ends of their paths, or nothing yet
 pub record Held (filled : Bool) (g : Graph) (l n : ℕ) (table : List ℕ) : Type 0 where
   pub each : (s : ℕ) → s < n → Begins l s → getD table s 0 ≡ counted filled (ends g s)
@@ -37,7 +50,6 @@ pub record Spare (few : Bool) (l cap n : ℕ) (table : List ℕ) : Type 0 where
 
 -- the ends of the paths on s, if it has at most cap vertices
 unfoldable pub endsWithin : Graph → ℕ → ℕ → ℕ
-unfolding ends
 endsWithin g cap s = counted (leb (ones s) cap) (ends g s)
 
 -- what the table has of the closing set, if s has at most cap vertices

@@ -6,7 +6,7 @@ use lib.Bits.{bitAnd}
 use lib.Count.{ones}
 use lib.ListN.{getD}
 use Rattle.kep.specs.Sets.{counted}
-use Rattle.kep.specs.Table.{markedParts, greatestOf}
+use Rattle.kep.specs.computed.Table.{markedParts, greatestOf, best}
 
 -- how many of `members`, the set of all members, are in t
 abbrev pub heldIn : ℕ → ℕ → ℕ
@@ -15,6 +15,10 @@ heldIn members t = ones (bitAnd t members)
 -- what a set offers: its worth where it is marked, else 0
 unfoldable pub offer : (ℕ → ℕ) → (ℕ → Bool) → ℕ → ℕ
 offer v m t = counted (m t) (v t)
+
+-- the most that disjoint nonempty parts of s offer together, by the table of what each set offers
+abbrev pub bestOffered : List ℕ → ℕ → ℕ
+bestOffered offers s = best (λ t. getD offers t 0) (λ _. true) s
 
 -- the nonempty parts of s, marked or not
 abbrev pub everyPart : ℕ → List ℕ

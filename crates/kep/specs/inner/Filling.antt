@@ -6,16 +6,15 @@ use lib.Dec.{eqb, leb}
 use lib.Bits.{bitAnd}
 use lib.Count.{ones}
 use Rattle.kep.specs.Graph.{Graph, isAltruist, givers}
-use Rattle.kep.specs.Sets.{has, counted, setWhere, lowest}
+use Rattle.kep.specs.Sets.{has, counted, setWhere}
+use Rattle.kep.specs.inner.Lowest.{lowest}
 
 -- does a path on s without v end at a giver of v, where e tells the ends of paths on the smaller sets?
 unfoldable pub comes : Graph → (ℕ → ℕ) → ℕ → ℕ → Bool
-unfolding givers
 comes g e s v = not (eqb (bitAnd (e (s - 2 ^ v)) (givers g v)) 0)
 
 -- pass one at s: the ends of the paths on s that begin at its lowest vertex. A vertex alone is a path; any other ends at a later vertex
 unfoldable pub nextEnds : Graph → (ℕ → ℕ) → ℕ → ℕ
-unfolding comes
 nextEnds g e s =
     elim (eqb s (2 ^ lowest s)) [ true ↦ s | false ↦ setWhere (g .size) (λ v. has (s - 2 ^ lowest s) v && comes g e s v) ]
 

@@ -1,4 +1,4 @@
--- Paths that go on from the lowest free vertex, and the walk that completes them: what the choice of an exchange searches. Scaffolding
+-- Paths that go on from the lowest free vertex, and the leftmost way to complete them: what the choice of an exchange searches. Scaffolding
 -- of inner contracts and of the theory: nothing here has to be believed.
 use mathlib.Core.Bool.{Bool}
 use mathlib.Core.List.{List, [], _∷_}
@@ -26,9 +26,9 @@ Completes f path u (v ∷ ys) = Next f path u v × Completes f (2 ^ v + path) v 
 abbrev pub Completable : Field → ℕ → ℕ → Type 0
 Completable f path u = (ys : List ℕ) × Completes f path u ys
 
--- always on to the lowest vertex from which the path can be completed; where there is none, it ends
-pub data Walk (f : Field) : ℕ → ℕ → List ℕ → Type 0 where
-  stop : {path u : ℕ} → ((v : ℕ) → Next f path u v → Completable f (2 ^ v + path) v → ⊥) → Walk f path u []
+-- the leftmost way in the tree of paths: always on to the lowest vertex from which the path can be completed; where there is none, it ends
+pub data Leftmost (f : Field) : ℕ → ℕ → List ℕ → Type 0 where
+  stop : {path u : ℕ} → ((v : ℕ) → Next f path u v → Completable f (2 ^ v + path) v → ⊥) → Leftmost f path u []
   go-on :
       {path u v : ℕ} {ys : List ℕ} → Next f path u v → ((x : ℕ) → x < v → Next f path u x → Completable f (2 ^ x + path) x → ⊥)
-      → Walk f (2 ^ v + path) v ys → Walk f path u (v ∷ ys)
+      → Leftmost f (2 ^ v + path) v ys → Leftmost f path u (v ∷ ys)

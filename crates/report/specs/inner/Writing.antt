@@ -7,7 +7,7 @@ use Rattle.pool.specs.declared.value.Pool.{Pool}
 use Rattle.pool.specs.declared.limits.Limits.{Limits}
 use Rattle.pool.specs.Limits.{limitsFit}
 use Rattle.pool.specs.Refusals.{accepted, tested}
-use Rattle.report.specs.Text.{outcomeText, wholeText, Told, toldOf, leftOf}
+use Rattle.report.specs.Text.{outcomeText}
 
 -- to the first `at` bytes of old a word is added, which ends at `end` in new; it has at most `room` bytes
 pub record Adds (room : ℕ) (old new : List ℕ) (at end : ℕ) (word : List ℕ) : Type 0 where
@@ -18,12 +18,4 @@ pub record Adds (room : ℕ) (old new : List ℕ) (at end : ℕ) (word : List �
 
 -- the text of a pool that was read, under limits of two bytes
 unfoldable pub clearedText : Pool → Limits → List ℕ
-unfolding outcomeText tested
 clearedText p l = outcomeText (tested ((7, limitsFit l) ∷ []) 0 (accepted p)) l
-
--- what is told and left of a whole pool file
-abbrev pub wholeOutcome : List ℕ → List ℕ → ℕ → Told
-wholeOutcome pool limits room = toldOf (wholeText pool limits) room
-
-abbrev pub wholeLeft : List ℕ → List ℕ → List ℕ → List ℕ
-wholeLeft pool limits out = leftOf (wholeText pool limits) out

@@ -30,11 +30,17 @@ enum-known-answer c = search needs
 array-share-prefix-text : tie.Need-array-share-prefix-text
 array-share-prefix-text c = let m = c .before .before .before .before in omega (arith, inside (c .before), m .report .kept .1 .1 .0, length-replicate {A = ℕ} 1024 0)
 
-slice-aggregate-write-all : tie.Need-slice-aggregate-write-all
-slice-aggregate-write-all c = let m = c .before .before .before .before .before in sym (length-take-le (c .before .before .answer .given .0 .0) (m .report .last .1 .1 .0) (omega (arith, inside (c .before .before), m .report .kept .1 .1 .0, length-replicate {A = ℕ} 1024 0)))
+slice-aggregate-write-whole : tie.Need-slice-aggregate-write-whole
+slice-aggregate-write-whole c = let m = c .before .before .before .before .before in sym (length-take-le (c .before .before .answer .given .0 .0) (m .report .last .1 .1 .0) (omega (arith, inside (c .before .before), m .report .kept .1 .1 .0, length-replicate {A = ℕ} 1024 0)))
 
-write-all-requires : tie.Need-write-all-requires
-write-all-requires c κs = search needs
+write-whole-requires : tie.Need-write-whole-requires
+write-whole-requires c κs = search needs
+
+slice-aggregate-fail : tie.Need-slice-aggregate-fail
+slice-aggregate-fail c = search needs
+
+fail-requires : tie.Need-fail-requires
+fail-requires c κs = search needs
 
 enum-told : tie.Need-enum-told
 enum-told c = search needs
@@ -45,6 +51,9 @@ returns c = search needs
 returns-2 : tie.Need-returns-2
 returns-2 c = search needs
 
+returns-3 : tie.Need-returns-3
+returns-3 c = search needs
+
 pub print-spec : {M : Type 1} → statement M
 print-spec =
     tie.close
@@ -53,8 +62,11 @@ print-spec =
     report-requires
     enum-known-answer
     array-share-prefix-text
-    slice-aggregate-write-all
-    write-all-requires
+    slice-aggregate-write-whole
+    write-whole-requires
+    slice-aggregate-fail
+    fail-requires
     enum-told
     returns
-    returns-2)
+    returns-2
+    returns-3)

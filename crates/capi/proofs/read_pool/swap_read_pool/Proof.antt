@@ -1,7 +1,8 @@
 use denote.Ref.{now}
 use mathlib.Core.Path.{ap, _∙_}
+use Rattle.pool.specs.Refusals.{leftBy}
 use Rattle.pool.proofs.Tested.{outcome-accepted, outcome-refused}
-use Rattle.capi.specs.Answers.{poolAnswer, givesLeft}
+use Rattle.capi.specs.Answers.{poolAnswer}
 use borrow.Author.Needs.{needs}
 use Rattle.capi.proofs.read_pool.swap_read_pool.Statement.{statement}
 use Rattle.capi.proofs.read_pool.swap_read_pool.Tie as tie
@@ -30,14 +31,14 @@ refused-requires c κs = search needs
 returns : tie.Need-returns
 returns c =
     let r = c .before .before .before .before .before .before .before in
-    let o = outcome-accepted (c .before .before .before .before .before .enum-told .given .1) (r .read-pool .ensures .0) in
-    (c .accepted .ensures ∙ ap poolAnswer o, ap (λ x. givesLeft x (now (r .before .before .args .gives))) o)
+    let o = outcome-accepted (c .before .before .before .enum-told .given .1) (r .read-pool .ensures .0) in
+    (c .accepted .ensures ∙ ap poolAnswer o, ap (λ x. leftBy x (λ p. p .gives) (now (r .before .before .args .gives))) o)
 
 returns-2 : tie.Need-returns-2
 returns-2 c =
-    let r = c .before .before .before .before in
+    let r = c .before .before .before .before .before .before in
     let o = outcome-refused (r .read-pool .result .pool) (c .before .before .verdict .given .1) (r .read-pool .ensures .0) in
-    (c .refused .ensures ∙ ap poolAnswer o, ap (λ x. givesLeft x (now (r .before .before .args .gives))) o)
+    (c .refused .ensures ∙ ap poolAnswer o, ap (λ x. leftBy x (λ p. p .gives) (now (r .before .before .args .gives))) o)
 
 pub swap-read-pool-spec : {M : Type 1} → statement M
 swap-read-pool-spec =

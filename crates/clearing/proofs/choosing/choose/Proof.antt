@@ -7,7 +7,7 @@ use denote.Ref.{now}
 use lib.ListN.{length}
 use lib.Pow.{pow-mono, pow-pos}
 use Rattle.pool.specs.Value.{graphOf}
-use Rattle.kep.specs.Table.{bestOf}
+use Rattle.kep.specs.computed.Table.{bestOf}
 use Rattle.tables.specs.Calls.{worthIn}
 use Rattle.kep.proofs.Operations.{one-shl}
 use Rattle.kep.proofs.ExchangeFacts.{small-fits}
@@ -20,41 +20,41 @@ use Rattle.clearing.proofs.choosing.choose.Statement.{statement}
 use Rattle.clearing.proofs.choosing.choose.Tie as tie
 
 abbrev Inv-loop : tie.InvT-loop
-Inv-loop pool limits givers exchanges best dead₀ plan₀ free₀ records₀ dead plan free records = (length plan ≡ length plan₀) × (MadeOf pool limits plan₀ plan free records × Clean free dead)
+Inv-loop pool limits givers exchanges best dead₀ plan₀ size all free₀ records₀ dead plan free records = (length plan ≡ length plan₀) × (MadeOf pool limits plan₀ plan (free .0) records × Clean (free .0) dead)
 
 abbrev μ-loop : tie.MeasureT-loop
-μ-loop pool limits givers exchanges best dead₀ plan₀ free₀ records₀ dead plan free records = free
+μ-loop pool limits givers exchanges best dead₀ plan₀ size all free₀ records₀ dead plan free records = free .0
 
 -- a turn of the loop
 module _ (c : tie.At-loop Inv-loop μ-loop) where
   abbrev start : tie.Start Inv-loop μ-loop
-  start = c .before .before .before .before .before .before .before
+  start = c .before .before .before .before .before .before
 
   fourteen : start .args .pool .size ≤ 14
   fourteen = fits-size (start .args .pool) (start .pre .0 .fits)
 
-  below : c .loop .free < 16384
+  below : c .loop .free .0 < 16384
   below = let most : 2 ^ start .args .pool .size ≤ 2 ^ 14 = pow-mono fourteen in omega (arith, c .loop .inv .1 .0 .inside)
 
 -- something can be gained
 module _ (c : tie.Then1 Inv-loop μ-loop) where
-  gain : let l = c .before .before in let a = start l .args in 0 < bestOf (worthIn (a .pool)) (graphOf (a .pool)) (a .limits .cycle) (a .limits .chain) (l .loop .free)
-  gain = let l = c .before .before in omega (arith, c .if1 .taken, best-at (start l .pre .0 .hold) (l .loop .free) (l .loop .inv .1 .0 .inside))
+  gain : let l = c .before .before .before in let a = start l .args in 0 < bestOf (worthIn (a .pool)) (graphOf (a .pool)) (a .limits .cycle) (a .limits .chain) (l .loop .free .0)
+  gain = let l = c .before .before .before in omega (arith, c .if1 .taken, best-at (start l .pre .0 .hold) (l .loop .free .0) (l .loop .inv .1 .0 .inside))
 
-  nonempty : 0 < c .before .before .loop .free
-  nonempty = let a = start (c .before .before) .args in best-nonempty (graphOf (a .pool)) (a .limits .cycle) (a .limits .chain) (worthIn (a .pool)) gain
+  nonempty : 0 < c .before .before .before .loop .free .0
+  nonempty = let a = start (c .before .before .before) .args in best-nonempty (graphOf (a .pool)) (a .limits .cycle) (a .limits .chain) (worthIn (a .pool)) gain
 
   -- so there is room for a record
-  room : c .before .before .loop .records < start (c .before .before) .args .pool .size
+  room : c .before .before .before .loop .records < start (c .before .before .before) .args .pool .size
   room =
-      let l = c .before .before in
+      let l = c .before .before .before in
       let a = start l .args in
       made-room (graphOf (a .pool)) (a .limits .cycle) (a .limits .chain) (small-fits (fourteen l)) (worthIn (a .pool)) (l .loop .inv .1 .0) gain
 
 -- a step was made
 module _ (c : tie.After-take-exchange Inv-loop μ-loop) where
   abbrev turn : tie.At-loop Inv-loop μ-loop
-  turn = c .before .before .before .before .before
+  turn = c .before .before .before .before .before .before
 
   same-plan : length (withNext (turn .loop .plan) (turn .loop .records) (c .take-exchange .last .1 .1 .1 .1 .1 .1 .1 .0)) ≡ length (now (start turn .args .plan))
   same-plan =
@@ -63,7 +63,7 @@ module _ (c : tie.After-take-exchange Inv-loop μ-loop) where
 
 -- no exchange is taken
 skips : (c : tie.After-without Inv-loop μ-loop) → let t = c .before .before .before .before .before .before .before in let l = turn t in let a = start l .args in
-    (c .without .result .0 < l .loop .free)
+    (c .without .result .0 < l .loop .free .0)
     × (MadeOf (a .pool) (a .limits) (now (a .plan)) (withNext (l .loop .plan) (l .loop .records) (t .take-exchange .last .1 .1 .1 .1 .1 .1 .1 .0)) (c .without .result .0) (l .loop .records) × Clean (c .without .result .0) (t .take-exchange .last .1 .1 .1 .1 .1 .1 .0))
 skips c =
     let t = c .before .before .before .before .before .before .before in
@@ -71,49 +71,49 @@ skips c =
     let s = start l in
     let a = s .args in
     let wide = below l in
-    step-none (graphOf (a .pool)) (a .limits .cycle) (a .limits .chain) (small-fits (fourteen l)) (worthIn (a .pool)) (means (s .pre .0 .hold) (l .loop .free) (s .pre .0 .fits) (l .loop .inv .1 .0 .inside)) (l .loop .inv .1 .0) (gain (t .before .before .before)) (t .take-exchange .ensures .1)
+    step-none (graphOf (a .pool)) (a .limits .cycle) (a .limits .chain) (small-fits (fourteen l)) (worthIn (a .pool)) (means (s .pre .0 .hold) (l .loop .free .0) (s .pre .0 .fits) (l .loop .inv .1 .0 .inside)) (l .loop .inv .1 .0) (gain (t .before .before .before)) (t .take-exchange .ensures .1)
     (c .before .before .if2 .taken) (omega arith) (c .before .lowest .ensures) (c .without .ensures) (t .take-exchange .ensures .0)
 
 -- one is
 goes-on : (c : tie.Else2 Inv-loop μ-loop) → let t = c .before .before .before .before .before in let l = turn t in let a = start l .args in
-    (t .take-exchange .result ≤ l .loop .free)
-    × (l .loop .free - t .take-exchange .result < l .loop .free)
-    × (MadeOf (a .pool) (a .limits) (now (a .plan)) (withNext (l .loop .plan) (l .loop .records) (t .take-exchange .last .1 .1 .1 .1 .1 .1 .1 .0)) (l .loop .free - t .take-exchange .result) (l .loop .records + 1) × Clean (l .loop .free - t .take-exchange .result) (t .take-exchange .last .1 .1 .1 .1 .1 .1 .0))
+    (t .take-exchange .result .0 ≤ l .loop .free .0)
+    × (l .loop .free .0 - t .take-exchange .result .0 < l .loop .free .0)
+    × (MadeOf (a .pool) (a .limits) (now (a .plan)) (withNext (l .loop .plan) (l .loop .records) (t .take-exchange .last .1 .1 .1 .1 .1 .1 .1 .0)) (l .loop .free .0 - t .take-exchange .result .0) (l .loop .records + 1) × Clean (l .loop .free .0 - t .take-exchange .result .0) (t .take-exchange .last .1 .1 .1 .1 .1 .1 .0))
 goes-on c =
     let t = c .before .before .before .before .before in
     let l = turn t in
     let s = start l in
     let a = s .args in
-    step-one (graphOf (a .pool)) (a .limits .cycle) (a .limits .chain) (small-fits (fourteen l)) (worthIn (a .pool)) (means (s .pre .0 .hold) (l .loop .free) (s .pre .0 .fits) (l .loop .inv .1 .0 .inside)) (l .loop .inv .1 .0) (gain (t .before .before .before)) (t .take-exchange .ensures .1)
+    step-one (graphOf (a .pool)) (a .limits .cycle) (a .limits .chain) (small-fits (fourteen l)) (worthIn (a .pool)) (means (s .pre .0 .hold) (l .loop .free .0) (s .pre .0 .fits) (l .loop .inv .1 .0 .inside)) (l .loop .inv .1 .0) (gain (t .before .before .before)) (t .take-exchange .ensures .1)
     (c .if2 .left) (t .take-exchange .ensures .0)
 
-cast-free : tie.Need-cast-free Inv-loop μ-loop
-cast-free c = search needs
+cast-all : tie.Need-cast-all Inv-loop μ-loop
+cast-all c = search needs
 
-shl-free : tie.Need-shl-free Inv-loop μ-loop
-shl-free c = let s = c .before .before .before .before .before .before in omega (arith, fits-size (s .args .pool) (s .pre .0 .fits))
+shl-all : tie.Need-shl-all Inv-loop μ-loop
+shl-all c = let s = c .before .before .before .before .before in omega (arith, fits-size (s .args .pool) (s .pre .0 .fits))
 
-sub-free : tie.Need-sub-free Inv-loop μ-loop
-sub-free c = let s = c .before .before .before .before .before .before in rw (one-shl 16 (s .args .pool .size) (omega (arith, fits-size (s .args .pool) (s .pre .0 .fits)))) (pow-pos (s .args .pool .size))
+sub-all : tie.Need-sub-all Inv-loop μ-loop
+sub-all c = let s = c .before .before .before .before .before in rw (one-shl 16 (s .args .pool .size) (omega (arith, fits-size (s .args .pool) (s .pre .0 .fits)))) (pow-pos (s .args .pool .size))
 
 loop-holds : tie.Need-loop-holds Inv-loop μ-loop
 loop-holds c =
-    let s = c .before .before .before .before .before .before in
+    let s = c .before .before .before .before .before in
     let a = s .args in
     let small = fits-size (a .pool) (s .pre .0 .fits) in
     (refl, rw (one-shl 16 (a .pool .size) (omega (arith, small))) (made-start (graphOf (a .pool)) (a .limits .cycle) (a .limits .chain) (small-fits small) (worthIn (a .pool)) (now (a .plan)), s .pre .1 .0))
 
 cast-if1 : tie.Need-cast-if1 Inv-loop μ-loop
-cast-if1 c = record { fits = omega (arith, below c) }
+cast-if1 c = record { fits = omega (arith, below (c .before)) }
 
 shared-slice-read-if1 : tie.Need-shared-slice-read-if1 Inv-loop μ-loop
-shared-slice-read-if1 c = let l = c .before in omega (arith, l .loop .inv .1 .0 .inside, best-long (start l .pre .0 .hold))
+shared-slice-read-if1 c = let l = c .before .before in omega (arith, l .loop .inv .1 .0 .inside, best-long (start l .pre .0 .hold))
 
 mul-at : tie.Need-mul-at Inv-loop μ-loop
-mul-at c = record { fits = omega (arith, room c, fourteen (c .before .before)) }
+mul-at c = record { fits = omega (arith, room c, fourteen (c .before .before .before)) }
 
 add-take-exchange : tie.Need-add-take-exchange Inv-loop μ-loop
-add-take-exchange c = record { fits = omega (arith, room (c .before), fourteen (c .before .before .before)) }
+add-take-exchange c = record { fits = omega (arith, room (c .before), fourteen (c .before .before .before .before)) }
 
 sub-take-exchange : tie.Need-sub-take-exchange Inv-loop μ-loop
 sub-take-exchange c = omega arith
@@ -122,11 +122,11 @@ part-take-exchange-start : tie.Need-part-take-exchange-start Inv-loop μ-loop
 part-take-exchange-start c = sub-take-exchange c
 
 part-take-exchange-end : tie.Need-part-take-exchange-end Inv-loop μ-loop
-part-take-exchange-end c = let l = c .before .before .before in part-end (room (c .before)) (start l .pre .1 .1) (l .loop .inv .0)
+part-take-exchange-end c = let l = c .before .before .before .before in part-end (room (c .before)) (start l .pre .1 .1) (l .loop .inv .0)
 
 take-exchange-requires : tie.Need-take-exchange-requires Inv-loop μ-loop
 take-exchange-requires c κs =
-    let l = c .before .before .before .before in
+    let l = c .before .before .before .before .before in
     (start l .pre .0, (nonempty (c .before .before), (l .loop .inv .1 .0 .inside, (l .loop .inv .1 .1, sym (c .take-exchange-arg2 .given .1) ∙ omega arith))))
 
 lowest-requires : tie.Need-lowest-requires Inv-loop μ-loop
@@ -139,33 +139,33 @@ loop-less : tie.Need-loop-less Inv-loop μ-loop
 loop-less c = skips c .0
 
 loop-again : tie.Need-loop-again Inv-loop μ-loop
-loop-again c = let t = c .before .before .before .before .before .before .before in (same-plan t, skips c .1)
+loop-again c = (same-plan (c .before .before .before .before .before .before .before), skips c .1)
 
-sub-free-2 : tie.Need-sub-free-2 Inv-loop μ-loop
-sub-free-2 c = goes-on c .0
+sub-t29 : tie.Need-sub-t29 Inv-loop μ-loop
+sub-t29 c = omega (arith, goes-on c .0)
 
 add-records : tie.Need-add-records Inv-loop μ-loop
-add-records c = let t = c .before .before .before .before .before .before .before .before in record { fits = omega (arith, room t, fourteen (t .before .before)) }
+add-records c = let g = c .before .before .before .before .before .before .before .before in record { fits = omega (arith, room g, fourteen (g .before .before .before)) }
 
 loop-less-2 : tie.Need-loop-less-2 Inv-loop μ-loop
 loop-less-2 c = goes-on c .1
 
 loop-again-2 : tie.Need-loop-again-2 Inv-loop μ-loop
-loop-again-2 c = let t = c .before .before .before .before .before in (same-plan t, goes-on c .2)
+loop-again-2 c = (same-plan (c .before .before .before .before .before), goes-on c .2)
 
 same-length : tie.Need-same-length Inv-loop μ-loop
-same-length c = let l = c .before .before in l .loop .inv .1 .1 .long ∙ sym (start l .pre .1 .0 .long)
+same-length c = let l = c .before .before .before in l .loop .inv .1 .1 .long ∙ sym (start l .pre .1 .0 .long)
 
 same-length-2 : tie.Need-same-length-2 Inv-loop μ-loop
-same-length-2 c = c .before .before .loop .inv .0
+same-length-2 c = c .before .before .before .loop .inv .0
 
 returns : tie.Need-returns Inv-loop μ-loop
 returns c =
-    let l = c .before .before in
+    let l = c .before .before .before in
     let a = start l .args in
     let g = graphOf (a .pool) in
     let made = l .loop .inv .1 .0 in
-    let end = sym (best-at (start l .pre .0 .hold) (l .loop .free) (made .inside)) ∙ c .if1 .left in
+    let end = sym (best-at (start l .pre .0 .hold) (l .loop .free .0) (made .inside)) ∙ c .if1 .left in
     (made-count g (a .limits .cycle) (a .limits .chain) (small-fits (fourteen l)) (worthIn (a .pool)) made end, made-plan g (a .limits .cycle) (a .limits .chain) (small-fits (fourteen l)) (worthIn (a .pool)) made end)
 
 pub choose-spec : {M : Type 1} → statement M
@@ -174,9 +174,9 @@ choose-spec =
     (tie.spec
     Inv-loop
     μ-loop
-    cast-free
-    shl-free
-    sub-free
+    cast-all
+    shl-all
+    sub-all
     loop-holds
     cast-if1
     shared-slice-read-if1
@@ -190,7 +190,7 @@ choose-spec =
     without-requires
     loop-less
     loop-again
-    sub-free-2
+    sub-t29
     add-records
     loop-less-2
     loop-again-2

@@ -27,18 +27,18 @@ cast-length : tie.Need-cast-length
 cast-length c = search needs
 
 -- as many vertices as the set has
-counted : (c : tie.After-size) → c .size .result ≡ ones (c .before .before .args .set)
-counted c = let s = c .before .before in c .size .ensures ∙ size-ones 16 (s .args .set) (s .fits .set .fits)
+counted : (c : tie.After-size) → c .size .result ≡ ones (c .before .before .args .set .0)
+counted c = let s = c .before .before in c .size .ensures ∙ size-ones 16 (s .args .set .0) (omega arith)
 
 at-most : (c : tie.After-size) → c .size .result ≤ 14
 at-most c =
     let s = c .before .before in
     let all : 2 ^ s .args .pool .size ≤ 2 ^ 14 = pow-mono (fits-size (s .args .pool) (s .pre .0)) in
-    omega (arith, counted c, ones-le 14 (s .args .set) (omega (arith, s .pre .1 .0)))
+    omega (arith, counted c, ones-le 14 (s .args .set .0) (omega (arith, s .pre .1 .0)))
 
 -- the record up to its last two bytes
 front : (c : tie.After-fill-up) → let n = c .before .before in let a = n .before .before .args in
-    (xs : List ℕ) → Fronted (a .pool) xs (a .set) (now (a .bytes)) → Front xs (now (a .bytes)) (c .fill-up .last .0) (n .size .result)
+    (xs : List ℕ) → Fronted (a .pool) xs (a .set .0) (now (a .bytes)) → Front xs (now (a .bytes)) (c .fill-up .last .0) (n .size .result)
 front c xs f =
     let n = c .before .before in
     let s = n .before .before in

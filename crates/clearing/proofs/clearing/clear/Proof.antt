@@ -1,7 +1,6 @@
 use borrow.Author.Needs.{needs}
-use denote.Ref.{now}
 use Rattle.pool.proofs.Tested.{outcome-accepted, outcome-refused}
-use Rattle.clearing.proofs.ClearingCode.{tells-refused, tells-same, read-first}
+use Rattle.clearing.proofs.ClearingCode.{told-refused, exchanges-stay, best-stays, plan-stays, tells-same, read-first, read-refused}
 use Rattle.clearing.proofs.clearing.clear.Statement.{statement}
 use Rattle.clearing.proofs.clearing.clear.Tie as tie
 
@@ -13,9 +12,8 @@ enum-known-verdict c = search needs
 
 returns : tie.Need-returns
 returns c =
-    let r = c .before .before .before in
-    let a = r .before .before .before .before .before .args in
-    tells-refused (a .limits) (now (a .exchanges)) (now (a .best)) (now (a .plan)) (read-first (now (a .pool)) (a .limits) (now (a .exchanges)) (now (a .best)) (now (a .plan)) (outcome-refused _ (c .before .verdict .given .1) (r .read-pool .ensures .0)))
+    let e = read-refused _ (outcome-refused _ (c .before .verdict .given .1) (c .before .before .before .read-pool .ensures .0)) in
+    (told-refused (e _ _ _ _) _, (exchanges-stay (e _ _ _ _) _ _, (best-stays (e _ _ _ _) _ _, plan-stays (e _ _ _ _) _ _)))
 
 enum-told : tie.Need-enum-told
 enum-told c = search needs
@@ -34,11 +32,8 @@ same-length-3 c = search needs
 
 returns-2 : tie.Need-returns-2
 returns-2 c =
-    let m = c .before .before .before .before .before .before in
-    let t = m .before .before .before .before in
-    let a = t .before .before .before .before .before .before .before .args in
-    let read = outcome-accepted (t .enum-told .given .1) (t .before .before .read-pool .ensures .0) in
-    tells-same (a .limits) (now (a .exchanges)) (now (a .best)) (now (a .plan)) (read-first (now (a .pool)) (a .limits) (now (a .exchanges)) (now (a .best)) (now (a .plan)) read) (m .clear-value .ensures)
+    let t = c .before .before .before .before .before .before .before .before .before .before in
+    tells-same _ _ _ _ (read-first _ _ _ _ _ (outcome-accepted (t .enum-told .given .1) (t .before .before .read-pool .ensures .0))) (c .before .before .before .before .before .before .clear-value .ensures)
 
 pub clear-spec : {M : Type 1} → statement M
 clear-spec =

@@ -9,9 +9,8 @@ use Rattle.pool.specs.Refusals.{accepted}
 use Rattle.pool.specs.Value.{graphOf}
 use Rattle.kep.specs.Lists.{flat}
 use Rattle.kep.specs.Table.{served}
-use Rattle.pool.proofs.ValueLaws.{fits-size}
-use Rattle.tables.proofs.Preparing.{entries-are}
-use Rattle.clearing.specs.Clearing.{planOf, exchangesOf, bestsOf}
+use Rattle.pool.proofs.ValueLaws.{fits-size, entries-are}
+use Rattle.clearing.specs.computed.Cleared.{planOf, exchangesOf, bestsOf}
 use Rattle.clearing.specs.inner.Taking.{TablesHold}
 use Rattle.clearing.proofs.FilledTables.{exchanges-filled, best-filled, filled-hold, last-served}
 use Rattle.clearing.proofs.ClearingCode.{Passed, passed}

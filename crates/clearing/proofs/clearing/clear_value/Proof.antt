@@ -1,7 +1,10 @@
 use borrow.Author.Needs.{needs}
+use mathlib.Core.Path.{_≡_}
 use denote.Ref.{now}
+use Rattle.pool.specs.Refusals.{accepted}
 use Rattle.pool.proofs.Tested.{outcome-accepted, outcome-refused}
-use Rattle.clearing.proofs.ClearingCode.{tells-refused, tells-same}
+use Rattle.clearing.specs.Clearing.{clearableValue}
+use Rattle.clearing.proofs.ClearingCode.{told-refused, exchanges-stay, best-stays, plan-stays, tells-same}
 use Rattle.clearing.proofs.clearing.clear_value.Statement.{statement}
 use Rattle.clearing.proofs.clearing.clear_value.Tie as tie
 
@@ -10,6 +13,23 @@ test-lent-requires c κs = search needs
 
 enum-known-verdict : tie.Need-enum-known-verdict
 enum-known-verdict c = search needs
+
+returns : tie.Need-returns
+unfolding clearableValue
+returns c =
+    let e = outcome-refused _ (c .before .verdict .given .1) (c .before .before .before .test-lent .ensures) in
+    (told-refused e _, (exchanges-stay e _ _, (best-stays e _ _, plan-stays e _ _)))
+
+enum-told : tie.Need-enum-told
+enum-told c = search needs
+
+-- all tests were passed
+passed : (c : tie.After-enum-told) → let a = c .before .before .before .before .before .before .args in accepted (a .pool) ≡ clearableValue (a .pool) (a .limits) (now (a .exchanges)) (now (a .best)) (now (a .plan))
+unfolding clearableValue
+passed c = outcome-accepted (c .enum-told .given .1) (c .before .before .test-lent .ensures)
+
+clear-accepted-requires : tie.Need-clear-accepted-requires
+clear-accepted-requires c κs = passed (c .before .before .before)
 
 same-length : tie.Need-same-length
 same-length c = search needs
@@ -20,33 +40,8 @@ same-length-2 c = search needs
 same-length-3 : tie.Need-same-length-3
 same-length-3 c = search needs
 
-returns : tie.Need-returns
-returns c =
-    let t = c .before .before .before in
-    let a = t .before .before .before .before .before .before .before .args in
-    tells-refused (a .limits) (now (a .exchanges)) (now (a .best)) (now (a .plan)) (outcome-refused _ (c .before .verdict .given .1) (t .test-lent .ensures))
-
-enum-told : tie.Need-enum-told
-enum-told c = search needs
-
-clear-accepted-requires : tie.Need-clear-accepted-requires
-clear-accepted-requires c κs = let t = c .before .before .before in outcome-accepted (t .enum-told .given .1) (t .before .before .test-lent .ensures)
-
-same-length-4 : tie.Need-same-length-4
-same-length-4 c = search needs
-
-same-length-5 : tie.Need-same-length-5
-same-length-5 c = search needs
-
-same-length-6 : tie.Need-same-length-6
-same-length-6 c = search needs
-
 returns-2 : tie.Need-returns-2
-returns-2 c =
-    let m = c .before .before .before .before .before .before in
-    let t = m .before .before .before .before in
-    let a = t .before .before .before .before .before .before .before .before .before .args in
-    tells-same (a .limits) (now (a .exchanges)) (now (a .best)) (now (a .plan)) (outcome-accepted (t .enum-told .given .1) (t .before .before .test-lent .ensures)) (m .clear-accepted .ensures)
+returns-2 c = tells-same _ _ _ _ (passed (c .before .before .before .before .before .before .before .before .before .before)) (c .before .before .before .before .before .before .clear-accepted .ensures)
 
 pub clear-value-spec : {M : Type 1} → statement M
 clear-value-spec =
@@ -54,13 +49,10 @@ clear-value-spec =
     (tie.spec
     test-lent-requires
     enum-known-verdict
-    same-length
-    same-length-2
-    same-length-3
     returns
     enum-told
     clear-accepted-requires
-    same-length-4
-    same-length-5
-    same-length-6
+    same-length
+    same-length-2
+    same-length-3
     returns-2)

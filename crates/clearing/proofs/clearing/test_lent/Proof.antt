@@ -1,13 +1,12 @@
 use borrow.Author.Needs.{needs}
 use native.Mathlib.Omega.{arith}
-use denote.Ref.{now}
 use lib.Dec.{T}
+use Rattle.pool.specs.declared.value.Pool.{Pool}
 use Rattle.pool.specs.Limits.{limitsFit}
 use Rattle.pool.specs.Value.{poolFits}
 use Rattle.pool.proofs.Accepted.{pool-fits, limits-fit}
 use Rattle.pool.proofs.Tested.{outcome-accepted, outcome-refused}
-use Rattle.pool.proofs.ValueLaws.{fits-size}
-use Rattle.tables.proofs.Preparing.{entries-are}
+use Rattle.pool.proofs.ValueLaws.{fits-size, entries-are}
 use Rattle.clearing.proofs.ClearingCode.{pool-refused, limits-refused, exchanges-short, best-short, plan-short, passes-all}
 use Rattle.clearing.proofs.clearing.test_lent.Statement.{statement}
 use Rattle.clearing.proofs.clearing.test_lent.Tie as tie
@@ -19,17 +18,19 @@ enum-known-pool-verdict : tie.Need-enum-known-pool-verdict
 enum-known-pool-verdict c = search needs
 
 returns : tie.Need-returns
-returns c =
-    let t = c .before .before .before in
-    let a = t .before .before .before .before .args in
-    pool-refused (a .pool) (a .limits) (now (a .exchanges)) (now (a .best)) (now (a .plan)) (outcome-refused _ (c .before .pool-verdict .given .1) (t .test .ensures))
+returns c = let a = c .before .before .before .before .args in pool-refused (a .pool) (a .limits) (a .exchanges) (a .best) (a .plan) (outcome-refused _ (c .before .pool-verdict .given .1) (c .before .before .before .test .ensures))
 
 enum-told : tie.Need-enum-told
 enum-told c = search needs
 
 -- past its test the pool fits
-fits : (c : tie.After-enum-told) → T (poolFits (c .before .before .before .before .before .before .args .pool))
-fits c = pool-fits (outcome-accepted (c .enum-told .given .1) (c .before .before .test .ensures))
+module _ (c : tie.After-enum-told) where
+  pool : Pool
+  pool = c .before .before .before .args .pool
+
+  fits : T (poolFits pool)
+  unfolding pool
+  fits = pool-fits (outcome-accepted (c .enum-told .given .1) (c .before .before .test .ensures))
 
 test-requires-2 : tie.Need-test-requires-2
 test-requires-2 c κs = search needs
@@ -38,44 +39,40 @@ enum-known-limits-verdict : tie.Need-enum-known-limits-verdict
 enum-known-limits-verdict c = search needs
 
 returns-2 : tie.Need-returns-2
+unfolding pool
 returns-2 c =
-    let t = c .before .before .before in
-    let a = t .before .before .before .before .before .before .before .args in
-    limits-refused (a .pool) (a .limits) (now (a .exchanges)) (now (a .best)) (now (a .plan)) (fits (t .before)) (outcome-refused _ (c .before .limits-verdict .given .1) (t .test2 .ensures))
+    let t = c .before .before .before .before in
+    let a = t .before .before .before .args in
+    limits-refused (pool t) (a .limits) (a .exchanges) (a .best) (a .plan) (fits t) (outcome-refused _ (c .before .limits-verdict .given .1) (c .before .before .before .test2 .ensures))
 
 enum-told-2 : tie.Need-enum-told-2
 enum-told-2 c = search needs
 
 -- and so do the limits
-module _ (c : tie.After-enum-told2) where
-  abbrev start : tie.Start
-  start = c .before .before .before .before .before .before .before .before .before
-
-  fit : T (poolFits (start .args .pool))
-  fit = fits (c .before .before .before)
-
-  within : T (limitsFit (start .args .limits))
-  within = limits-fit (outcome-accepted (c .enum-told2 .given .1) (c .before .before .test2 .ensures))
+within : (c : tie.After-enum-told2) → T (limitsFit (c .before .before .before .before .before .before .args .limits))
+within c = limits-fit (outcome-accepted (c .enum-told2 .given .1) (c .before .before .test2 .ensures))
 
 cast-entries : tie.Need-cast-entries
 cast-entries c = search needs
 
 shl-entries : tie.Need-shl-entries
-shl-entries c = let w = c .before in omega (arith, fits-size (start w .args .pool) (fit w))
+unfolding pool
+shl-entries c = let t = c .before .before .before in omega (arith, fits-size (pool t) (fits t))
 
 returns-3 : tie.Need-returns-3
+unfolding pool
 returns-3 c =
-    let w = c .before .before in
-    let a = start w .args in
-    let entries = entries-are (a .pool) (fit w) in
-    exchanges-short (a .pool) (a .limits) (now (a .exchanges)) (now (a .best)) (now (a .plan)) (fit w) (within w) (omega arith)
+    let t = c .before .before .before .before in
+    let a = t .before .before .before .args in
+    exchanges-short (pool t) (a .limits) (a .exchanges) (a .best) (a .plan) (fits t) (within (c .before)) (omega (arith, entries-are (pool t) (fits t)))
 
 returns-4 : tie.Need-returns-4
+unfolding pool
 returns-4 c =
-    let w = c .before .before .before in
-    let a = start w .args in
-    let entries = entries-are (a .pool) (fit w) in
-    best-short (a .pool) (a .limits) (now (a .exchanges)) (now (a .best)) (now (a .plan)) (fit w) (within w) (omega arith) (omega arith)
+    let t = c .before .before .before .before .before in
+    let a = t .before .before .before .args in
+    let entries = entries-are (pool t) (fits t) in
+    best-short (pool t) (a .limits) (a .exchanges) (a .best) (a .plan) (fits t) (within (c .before .before)) (omega arith) (omega arith)
 
 cast-if3 : tie.Need-cast-if3
 cast-if3 c = search needs
@@ -84,18 +81,20 @@ mul-if3 : tie.Need-mul-if3
 mul-if3 c = search needs
 
 returns-5 : tie.Need-returns-5
+unfolding pool
 returns-5 c =
-    let w = c .before .before .before .before .before in
-    let a = start w .args in
-    let entries = entries-are (a .pool) (fit w) in
-    plan-short (a .pool) (a .limits) (now (a .exchanges)) (now (a .best)) (now (a .plan)) (fit w) (within w) (omega arith) (omega arith) (c .if3 .taken)
+    let t = c .before .before .before .before .before .before in
+    let a = t .before .before .before .args in
+    let entries = entries-are (pool t) (fits t) in
+    plan-short (pool t) (a .limits) (a .exchanges) (a .best) (a .plan) (fits t) (within (c .before .before .before)) (omega arith) (omega arith) (c .if3 .taken)
 
 returns-6 : tie.Need-returns-6
+unfolding pool
 returns-6 c =
-    let w = c .before .before .before .before .before in
-    let a = start w .args in
-    let entries = entries-are (a .pool) (fit w) in
-    passes-all (a .pool) (a .limits) (now (a .exchanges)) (now (a .best)) (now (a .plan)) (fit w) (within w) (omega arith) (omega arith) (c .if3 .left)
+    let t = c .before .before .before .before .before .before in
+    let a = t .before .before .before .args in
+    let entries = entries-are (pool t) (fits t) in
+    passes-all (pool t) (a .limits) (a .exchanges) (a .best) (a .plan) (fits t) (within (c .before .before .before)) (omega arith) (omega arith) (c .if3 .left)
 
 pub test-lent-spec : {M : Type 1} → statement M
 test-lent-spec =

@@ -1,7 +1,11 @@
 use borrow.Author.Needs.{needs}
 use mathlib.Core.Path.{refl, sym, _∙_}
+use Prim.Native.Nat.{_-_, _^_}
 use native.Mathlib.Omega.{arith}
+use denote.Ref.{now}
 use Rattle.kep.proofs.Operations.{one-shl}
+use Rattle.kep.proofs.Vertices.{bit-le}
+use Rattle.clearing.proofs.Seek.{kept-as}
 use Rattle.clearing.proofs.seeking.end_at.Statement.{statement}
 use Rattle.clearing.proofs.seeking.end_at.Tie as tie
 
@@ -15,7 +19,10 @@ shl-bit : tie.Need-shl-bit
 shl-bit c = search needs
 
 sub-before : tie.Need-sub-before
-sub-before c = search needs
+sub-before c =
+    let s = c .before .before .before .before .before in
+    let a = s .args in
+    omega (arith, one-shl 16 (a .u) (omega (arith, s .pre .0)), bit-le (a .path .0) (a .u) (s .pre .1 .1 .1 .1 .1))
 
 cast-before : tie.Need-cast-before
 cast-before c = search needs
@@ -37,8 +44,10 @@ same-length c = search needs
 
 returns-2 : tie.Need-returns-2
 returns-2 c =
-    let a = c .before .before .before .before .before .before .args in
-    rw (sym (c .before .before .may-end .ensures) ∙ c .before .if1 .left, one-shl 16 (a .u) (omega arith)) (refl, refl)
+    let s = c .before .before .before .before .before .before in
+    let a = s .args in
+    rw (sym (c .before .before .may-end .ensures) ∙ c .before .if1 .left, one-shl 16 (a .u) (omega (arith, s .pre .0)))
+    (refl, kept-as (now (a .dead)) (a .path .0) (a .u) (omega arith) (s .pre .1 .1 .1 .1 .1) (omega (arith, s .pre .0)) (omega (arith, c .slice-known2 .given (a .path .0 - 2 ^ a .u))))
 
 pub end-at-spec : {M : Type 1} → statement M
 end-at-spec =

@@ -19,7 +19,10 @@ returns-2 : tie.Need-returns-2
 unfolding openAt
 returns-2 c =
     let a = c .before .before .before .before .args in
-    rw (ne-eqb (a .more) 0 (c .before .before .before .if1 .left), eq-eqb (bitAnd (a .step .goal) (a .step .free - a .path)) 0 (c .if2 .taken))
+    rw (ne-eqb (a .more) 0 (c .before .before .before .if1 .left), eq-eqb (bitAnd (a .step .goal .0) (a .step .free .0 - a .path .0)) 0 (c .if2 .taken))
+
+cast-here : tie.Need-cast-here
+cast-here c = search needs
 
 mul-ways : tie.Need-mul-ways
 mul-ways c = search needs
@@ -27,22 +30,22 @@ mul-ways c = search needs
 shared-slice-read-ways : tie.Need-shared-slice-read-ways
 shared-slice-read-ways c = search needs
 
-mul-result : tie.Need-mul-result
-mul-result c = search needs
+mul-t14 : tie.Need-mul-t14
+mul-t14 c = search needs
 
-shared-slice-read-result : tie.Need-shared-slice-read-result
-shared-slice-read-result c = search needs
+shared-slice-read-t13 : tie.Need-shared-slice-read-t13
+shared-slice-read-t13 c = search needs
 
-sub-result : tie.Need-sub-result
-sub-result c =
+sub-t18 : tie.Need-sub-t18
+sub-t18 c =
     let a = c .before .before .before .before .before .before .args in
-    and-le-r (getD (now (a .dead)) (a .path) 0) (bitAnd (getD (now (a .gives)) (a .u) 0) (a .step .free - a .path))
+    and-le-r (getD (now (a .dead)) (a .path .0) 0) (bitAnd (getD (now (a .gives)) (a .u) 0) (a .step .free .0 - a .path .0))
 
 returns-3 : tie.Need-returns-3
 unfolding openAt
 returns-3 c =
     let a = c .before .before .before .before .before .before .args in
-    rw (ne-eqb (a .more) 0 (c .before .before .before .before .before .if1 .left), ne-eqb (bitAnd (a .step .goal) (a .step .free - a .path)) 0 (c .before .before .if2 .left))
+    rw (ne-eqb (a .more) 0 (c .before .before .before .before .before .if1 .left), ne-eqb (bitAnd (a .step .goal .0) (a .step .free .0 - a .path .0)) 0 (c .before .before .if2 .left))
 
 pub open-at-spec : {M : Type 1} → statement M
 open-at-spec =
@@ -51,9 +54,10 @@ open-at-spec =
     returns
     sub-rest
     returns-2
+    cast-here
     mul-ways
     shared-slice-read-ways
-    mul-result
-    shared-slice-read-result
-    sub-result
+    mul-t14
+    shared-slice-read-t13
+    sub-t18
     returns-3)

@@ -10,11 +10,17 @@ use Rattle.exchanges.proofs.EightLanes.{ends-3, ends-5, ends-6, ends-7,
 use Rattle.exchanges.proofs.abreast.all_ends.Statement.{statement}
 use Rattle.exchanges.proofs.abreast.all_ends.Tie as tie
 
+array-read-e0 : tie.Need-array-read-e0
+array-read-e0 c = search needs
+
 array-read-e1 : tie.Need-array-read-e1
 array-read-e1 c = search needs
 
 array-read-e2 : tie.Need-array-read-e2
 array-read-e2 c = search needs
+
+array-read-e4 : tie.Need-array-read-e4
+array-read-e4 c = search needs
 
 array-read-e3 : tie.Need-array-read-e3
 array-read-e3 c = search needs
@@ -43,12 +49,6 @@ bit-where-requires-4 c κs = search needs
 bit-where-requires-5 : tie.Need-bit-where-requires-5
 bit-where-requires-5 c κs = search needs
 
-array-read-t15 : tie.Need-array-read-t15
-array-read-t15 c = search needs
-
-array-read-t30 : tie.Need-array-read-t30
-array-read-t30 c = search needs
-
 returns : tie.Need-returns
 returns c =
     let p4 = c .before in
@@ -74,8 +74,10 @@ pub all-ends-spec : {M : Type 1} → statement M
 all-ends-spec =
     tie.close
     (tie.spec
+    array-read-e0
     array-read-e1
     array-read-e2
+    array-read-e4
     array-read-e3
     bit-where-requires
     array-read-e5
@@ -85,6 +87,4 @@ all-ends-spec =
     array-read-e7
     bit-where-requires-4
     bit-where-requires-5
-    array-read-t15
-    array-read-t30
     returns)

@@ -13,11 +13,10 @@ use Rattle.pool.specs.Value.{graphOf}
 use Rattle.kep.proofs.Tables.{getD-whole}
 use Rattle.kep.proofs.Parts.{part-le}
 use Rattle.kep.proofs.Down.{step-below}
-use Rattle.pool.proofs.ValueLaws.{fits-size}
+use Rattle.pool.proofs.ValueLaws.{fits-size, entries-few}
 use Rattle.kep.proofs.Sifting.{Sifting, sifting-start}
 use Rattle.exchanges.specs.inner.Abreast.{common}
 use Rattle.exchanges.proofs.Given.{known-length}
-use Rattle.tables.proofs.Preparing.{entries-few}
 use Rattle.exchanges.proofs.Looking.{isOpen, vertex, look, looked}
 use Rattle.exchanges.proofs.EightLanes.{lanes-none, lanes-found, first-alone, first-several}
 use Rattle.exchanges.proofs.abreast.common_ends.Statement.{statement}

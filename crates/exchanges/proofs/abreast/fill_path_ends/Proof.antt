@@ -4,12 +4,11 @@ use Prim.Native.Nat.{_+_, _-_, _%_, _≤_, _^_}
 use native.Mathlib.Omega.{arith}
 use lib.ListN.{length}
 use Rattle.pool.specs.Value.{graphOf}
-use Rattle.pool.proofs.ValueLaws.{fits-size}
+use Rattle.pool.proofs.ValueLaws.{fits-size, entries-are, entries-few}
 use Rattle.kep.specs.inner.Filling.{ends}
 use Rattle.exchanges.specs.inner.Changed.{Changed}
 use Rattle.exchanges.proofs.Changed.{changed-none}
 use Rattle.exchanges.proofs.Given.{known-length, known-givers}
-use Rattle.tables.proofs.Preparing.{entries-are, entries-few}
 use Rattle.exchanges.proofs.EightLanes.{eight-known, eight-more, eights}
 use Rattle.exchanges.proofs.abreast.fill_path_ends.Statement.{statement}
 use Rattle.exchanges.proofs.abreast.fill_path_ends.Tie as tie

@@ -1,7 +1,6 @@
 use borrow.Author.Needs.{needs}
 use native.Mathlib.Omega.{arith}
-use Rattle.pool.proofs.ValueLaws.{fits-size}
-use Rattle.tables.proofs.Preparing.{entries-are}
+use Rattle.pool.proofs.ValueLaws.{fits-size, entries-are}
 use Rattle.exchanges.proofs.by_lowest.begin_table.Statement.{statement}
 use Rattle.exchanges.proofs.by_lowest.begin_table.Tie as tie
 

@@ -1,26 +1,25 @@
 use borrow.Author.Needs.{needs}
 use mathlib.Core.Logic.{⊎-elim, inl, inr}
 use mathlib.Core.Path.{ap, sym, _∙_}
-use Prim.Native.Nat.{ℕ, _+_, _-_, _*_, _%_, _≤_, _<_, _^_}
+use Prim.Native.Nat.{ℕ, _-_, _*_, _%_, _≤_, _<_, _^_}
 use native.Mathlib.Omega.{arith}
 use denote.Ref.{now}
 use lib.ListN.{length, length-set, set}
 use Rattle.pool.specs.Value.{graphOf}
-use Rattle.kep.proofs.Down.{step-below}
 use Rattle.pool.proofs.ValueLaws.{fits-size}
-use Rattle.exchanges.specs.inner.ByLowest.{Begins, endsWithin}
+use Rattle.exchanges.specs.inner.ByLowest.{Begins, Allowed, Next, endsWithin}
 use Rattle.exchanges.specs.inner.Changed.{Changed}
 use Rattle.exchanges.proofs.Changed.{changed-end}
 use Rattle.exchanges.proofs.Keeping.{lowest-of}
-use Rattle.exchanges.proofs.ByLowest.{Numbers, numbers-are, Allowed, Next, first-set, next-is, next-allowed, Alone, alone-put, put-changed, begun-start, begun-known, begun-more}
+use Rattle.exchanges.proofs.ByLowest.{Numbers, numbers-are, first-set, next-allowed, Alone, alone-put, put-changed, begun-start, begun-known, begun-more}
 use Rattle.exchanges.proofs.by_lowest.fill_allowed.Statement.{statement}
 use Rattle.exchanges.proofs.by_lowest.fill_allowed.Tie as tie
 
 abbrev Inv-loop : tie.InvT-loop
-Inv-loop pool low cap givers table₀ first step sets set₀ table set = (set < 2 ^ pool .size → Allowed low cap set) × Changed (λ i. (i < 2 ^ pool .size) × Begins low i) set (endsWithin (graphOf pool) cap) table₀ table
+Inv-loop pool low cap givers table₀ first sets set₀ table set = (set < 2 ^ pool .size → Allowed low cap set) × Changed (λ i. (i < 2 ^ pool .size) × Begins low i) set (endsWithin (graphOf pool) cap) table₀ table
 
 abbrev μ-loop : tie.MeasureT-loop
-μ-loop pool low cap givers table₀ first step sets set₀ table set = sets - set
+μ-loop pool low cap givers table₀ first sets set₀ table set = sets - set
 
 cast-first : tie.Need-cast-first Inv-loop μ-loop
 cast-first c = search needs
@@ -33,9 +32,6 @@ numbers c = numbers-are (c .pre .1 .1 .0) (few c)
 
 shl-first : tie.Need-shl-first Inv-loop μ-loop
 shl-first c = let s = c .before .before in omega (arith, few s, s .pre .1 .1 .0)
-
-add-step : tie.Need-add-step Inv-loop μ-loop
-add-step c = omega (arith, numbers (c .before .before))
 
 cast-sets : tie.Need-cast-sets Inv-loop μ-loop
 cast-sets c = search needs
@@ -52,8 +48,8 @@ mul-table c = omega (arith, numbers (c .before .before .before))
 slice-write-table : tie.Need-slice-write-table Inv-loop μ-loop
 slice-write-table c = let s = c .before .before .before in omega (arith, numbers s, s .pre .1 .0)
 
-add-set : tie.Need-add-set Inv-loop μ-loop
-add-set c = omega (arith, numbers (c .before .before .before .before))
+mul-set : tie.Need-mul-set Inv-loop μ-loop
+mul-set c = omega (arith, numbers (c .before .before .before .before))
 
 -- the vertex alone
 put : (c : tie.Joined1 Inv-loop μ-loop) → let a = c .before .before .before .args in
@@ -112,42 +108,21 @@ mul-table-2 c = omega (arith, set-small (c .before .before .before), numbers (st
 slice-write-table-2 : tie.Need-slice-write-table-2 Inv-loop μ-loop
 slice-write-table-2 c = omega (arith, set-small (c .before .before .before), room (c .before .before .before))
 
-sub-others : tie.Need-sub-others Inv-loop μ-loop
-sub-others c = let l = c .before .before .before .before in omega (arith, allowed l .more, numbers (start l))
+next-allowed-requires : tie.Need-next-allowed-requires Inv-loop μ-loop
+next-allowed-requires c κs = let l = c .before .before .before in let n = numbers (start l) in (omega (arith, allowed l .more, n), omega (arith, set-small l, n))
 
-sub-rest : tie.Need-sub-rest Inv-loop μ-loop
-sub-rest c = let l = c .before .before .before .before in omega (arith, allowed l .more, numbers (start l))
-
-sub-set : tie.Need-sub-set Inv-loop μ-loop
-sub-set c =
-    let l = c .before .before .before .before .before in
-    let others = l .before .loop .set - 1 * 2 ^ start l .args .low % 2 ^ 64 in
-    omega (arith, step-below others others (omega (arith, allowed l .more, numbers (start l))))
-
-add-set-2 : tie.Need-add-set-2 Inv-loop μ-loop
-add-set-2 c =
-    let l = c .before .before .before .before .before .before .before in
-    let n = numbers (start l) in
-    ⊎-elim (λ w. omega (arith, w .1, set-small l, n)) (λ w. omega (arith, w .1, set-small l, n)) (c .before .before .if3 .came)
-
-next : (c : tie.After-row-known4 Inv-loop μ-loop) → let l = c .before .before .before .before .before .before .before in
-    Next (start l .args .low) (start l .args .cap) (l .before .loop .set) (l .before .loop .set + c .before .before .if3 .set)
-next c =
-    let p = c .before .before .before .before .before in
-    let l = p .before .before in
-    let n = numbers (start l) in
-    next-is (allowed l) (p .path-ends .ensures .1) (n .first) (n .step) (⊎-elim (λ w. inl (w .0 .taken, w .1)) (λ w. inr (w .0 .left, w .1)) (c .before .before .if3 .came))
+next : (c : tie.After-next-allowed Inv-loop μ-loop) → let l = c .before .before .before .before in Next (start l .args .low) (start l .args .cap) (l .before .loop .set) (c .next-allowed .result)
+next c = let l = c .before .before .before .before in c .next-allowed .ensures (start l .args .low) (numbers (start l) .first) (c .before .before .path-ends .ensures .1) (allowed l)
 
 loop-less : tie.Need-loop-less Inv-loop μ-loop
-loop-less c = let l = c .before .before .before .before .before .before .before in omega (arith, next c .further, set-small l, numbers (start l))
+loop-less c = let l = c .before .before .before .before in omega (arith, next c .further, set-small l, numbers (start l))
 
 loop-again : tie.Need-loop-again Inv-loop μ-loop
 loop-again c =
-    let p = c .before .before .before .before .before in
-    let l = p .before .before in
+    let l = c .before .before .before .before in
     let s = start l in
     let a = s .args in
-    (λ _. next-allowed (allowed l) (next c), rw (numbers s .first) (begun-more (graphOf (a .pool)) (a .low) (a .pool .size) (a .cap) (put-room (alone l)) (put (alone l)) (set-small l) (allowed l) (filled l) (p .path-ends .ensures .0) (next c)))
+    (λ _. next-allowed (allowed l) (next c), rw (numbers s .first) (begun-more (graphOf (a .pool)) (a .low) (a .pool .size) (a .cap) (put-room (alone l)) (put (alone l)) (set-small l) (allowed l) (filled l) (c .before .before .path-ends .ensures .0) (next c)))
 
 same-length : tie.Need-same-length Inv-loop μ-loop
 same-length c =
@@ -173,21 +148,17 @@ fill-allowed-spec =
     μ-loop
     cast-first
     shl-first
-    add-step
     cast-sets
     shl-sets
     cast-table
     mul-table
     slice-write-table
-    add-set
+    mul-set
     loop-holds
     path-ends-requires
     mul-table-2
     slice-write-table-2
-    sub-others
-    sub-rest
-    sub-set
-    add-set-2
+    next-allowed-requires
     loop-less
     loop-again
     same-length

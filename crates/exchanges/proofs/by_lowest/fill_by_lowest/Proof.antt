@@ -6,7 +6,7 @@ use denote.Ref.{now}
 use lib.ListN.{length}
 use Rattle.pool.specs.Value.{graphOf}
 use Rattle.pool.proofs.ValueLaws.{fits-size}
-use Rattle.kep.specs.Table.{entry}
+use Rattle.kep.specs.computed.Table.{entry}
 use Rattle.exchanges.specs.inner.Changed.{Changed}
 use Rattle.exchanges.proofs.Changed.{changed-all}
 use Rattle.exchanges.proofs.ByLowest.{Before, before-none, still-held, before-more, before-all}

@@ -12,13 +12,12 @@ use lib.Bits.{bitAnd}
 use lib.Count.{ones, ones-le, trailingZeros}
 use Rattle.pool.specs.Value.{graphOf}
 use Rattle.kep.proofs.Parts.{part-le}
-use Rattle.pool.proofs.ValueLaws.{fits-size}
+use Rattle.pool.proofs.ValueLaws.{fits-size, entries-few}
 use Rattle.kep.proofs.Down.{step-below}
 use Rattle.kep.proofs.LowestBit.{lowest-out, ones-lowest, ones-none}
 use Rattle.kep.proofs.Sifting.{Sifting, sifting-start, sifting-le}
 use Rattle.kep.proofs.Ends.{ends-several}
 use Rattle.exchanges.proofs.Given.{known-length}
-use Rattle.tables.proofs.Preparing.{entries-few}
 use Rattle.exchanges.proofs.Looking.{isOpen, vertex, look, looked}
 use Rattle.exchanges.proofs.path_ends.path_ends.Statement.{statement}
 use Rattle.exchanges.proofs.path_ends.path_ends.Tie as tie

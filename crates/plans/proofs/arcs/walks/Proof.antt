@@ -1,45 +1,38 @@
-use Prim.Native.Nat.{_-_}
-use native.Mathlib.Omega.{arith}
-use mathlib.Core.Path.{sym, _∙_}
+use borrow.Author.Needs.{needs}
 use borrow.Author.Tests.{not-true, not-false}
+use mathlib.Core.Path.{_≡_, refl, sym, _∙_}
+use Prim.Native.Nat.{_≤_, _-_}
+use native.Mathlib.Omega.{arith}
 use denote.Ref.{now}
-use lib.ListN.{length}
+use lib.ListN.{length, drop}
 use Rattle.pool.specs.Value.{graphOf}
-use Rattle.plans.proofs.Scans.{each-here}
-use Rattle.plans.proofs.CheckArcs.{Walking, walking-start, walking-stop, walking-next, walking-end}
+use Rattle.kep.specs.Exchange.{walk}
+use Rattle.plans.proofs.CheckArcs.{walk-next, walk-stop, walk-end}
 use Rattle.plans.proofs.arcs.walks.Statement.{statement}
 use Rattle.plans.proofs.arcs.walks.Tie as tie
 
 abbrev Inv-loop : tie.InvT-loop
-Inv-loop pool vertices i₀ i = Walking (graphOf pool) vertices i
+Inv-loop pool from vertices giver₀ i₀ giver i = (i ≤ length vertices) × (walk (graphOf pool) giver (drop i vertices) ≡ walk (graphOf pool) from vertices)
 
 abbrev μ-loop : tie.MeasureT-loop
-μ-loop pool vertices i₀ i = length vertices - i
+μ-loop pool from vertices giver₀ i₀ giver i = length vertices - i
 
 loop-holds : tie.Need-loop-holds Inv-loop μ-loop
-loop-holds c = let s = c .before in walking-start (graphOf (s .args .pool)) (now (s .args .vertices)) (s .pre .1 .0)
+loop-holds c = (omega arith, refl)
 
-sub-has-arc : tie.Need-sub-has-arc Inv-loop μ-loop
-sub-has-arc c = omega arith
+shared-slice-read-taker : tie.Need-shared-slice-read-taker Inv-loop μ-loop
+shared-slice-read-taker c = omega arith
 
-shared-slice-read-has-arc : tie.Need-shared-slice-read-has-arc Inv-loop μ-loop
-shared-slice-read-has-arc c = omega arith
-
-shared-slice-read-has-arc-2 : tie.Need-shared-slice-read-has-arc-2 Inv-loop μ-loop
-shared-slice-read-has-arc-2 c = omega arith
-
-has-arc-requires : tie.Need-has-arc-requires Inv-loop μ-loop
-has-arc-requires c κs =
-    let l = c .before .before .before in
-    let s = l .before .before in (
-      s .pre .0,
-      (each-here (l .loop .i - 1) (s .pre .1 .1) (omega arith), each-here (l .loop .i) (s .pre .1 .1) (omega arith)),
-    )
+arc-requires : tie.Need-arc-requires Inv-loop μ-loop
+arc-requires c κs = search needs
 
 returns : tie.Need-returns Inv-loop μ-loop
 returns c =
-    let t = c .before .before .before .before in
-    walking-stop (t .before .loop .inv) (t .loop-test .taken) (sym (c .before .has-arc .ensures) ∙ not-true _ (c .if1 .taken))
+    let t = c .before .before .before in
+    let l = t .before in
+    let a = l .before .before .args in
+    walk-stop (graphOf (a .pool)) (l .loop .giver) (now (a .vertices)) (l .loop .inv .1) (t .loop-test .taken)
+    (sym (c .before .arc .ensures) ∙ not-true _ (c .if1 .taken))
 
 add-i : tie.Need-add-i Inv-loop μ-loop
 add-i c = omega arith
@@ -49,11 +42,19 @@ loop-less c = omega arith
 
 loop-again : tie.Need-loop-again Inv-loop μ-loop
 loop-again c =
-    let t = c .before .before .before .before in
-    walking-next (t .before .loop .inv) (t .loop-test .taken) (sym (c .before .has-arc .ensures) ∙ not-false _ (c .if1 .left))
+    let t = c .before .before .before in
+    let l = t .before in
+    let a = l .before .before .args in (
+      omega arith,
+      walk-next (graphOf (a .pool)) (l .loop .giver) (now (a .vertices)) (l .loop .inv .1) (t .loop-test .taken)
+          (sym (c .before .arc .ensures) ∙ not-false _ (c .if1 .left)),
+    )
 
 returns-2 : tie.Need-returns-2 Inv-loop μ-loop
-returns-2 c = walking-end (c .before .loop .inv) (c .loop-test .left)
+returns-2 c =
+    let l = c .before in
+    let a = l .before .before .args in
+    walk-end (graphOf (a .pool)) (l .loop .giver) (now (a .vertices)) (l .loop .inv .1) (c .loop-test .left)
 
 pub walks-spec : {M : Type 1} → statement M
 walks-spec =
@@ -62,10 +63,8 @@ walks-spec =
     Inv-loop
     μ-loop
     loop-holds
-    sub-has-arc
-    shared-slice-read-has-arc
-    shared-slice-read-has-arc-2
-    has-arc-requires
+    shared-slice-read-taker
+    arc-requires
     returns
     add-i
     loop-less

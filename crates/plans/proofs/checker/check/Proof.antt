@@ -2,9 +2,9 @@ use borrow.Author.Needs.{needs}
 use mathlib.Core.Path.{_≡_, sym, _∙_}
 use denote.Ref.{now}
 use Rattle.pool.specs.Refusals.{accepted}
-use Rattle.pool.specs.Records.{readPool}
+use Rattle.reading.specs.Records.{readPool}
 use Rattle.pool.proofs.Tested.{outcome-accepted}
-use Rattle.pool.proofs.ReadPool.{read-fits}
+use Rattle.reading.proofs.ReadPool.{read-fits}
 use Rattle.plans.proofs.CheckCalls.{pool-refused, limits-refused, records-checked}
 use Rattle.plans.proofs.checker.check.Statement.{statement}
 use Rattle.plans.proofs.checker.check.Tie as tie

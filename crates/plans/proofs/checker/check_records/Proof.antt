@@ -6,18 +6,18 @@ use denote.Ref.{now}
 use lib.ListN.{length}
 use Rattle.pool.specs.Value.{graphOf}
 use Rattle.pool.proofs.ValueLaws.{fits-size}
-use Rattle.plans.proofs.RecordLaws.{part-record, record-whole}
+use Rattle.kep.proofs.Cut.{part, part-length}
 use Rattle.plans.proofs.Checked.{check-length}
-use Rattle.plans.proofs.CheckSteps.{Checking, checking-start, checking-end}
-use Rattle.plans.proofs.CheckLoop.{turn-stop, turn-first, turn-next, turn-most}
+use Rattle.plans.proofs.CheckSteps.{Checking, checking-start, checking-end, checking-most}
+use Rattle.plans.proofs.CheckLoop.{turn-stop, turn-next}
 use Rattle.plans.proofs.checker.check_records.Statement.{statement}
 use Rattle.plans.proofs.checker.check_records.Tie as tie
 
 abbrev Inv-loop : tie.InvT-loop
-Inv-loop pool limits plan records met₀ least₀ served₀ k₀ met least served k = (k ≤ records) × Checking (graphOf pool) (limits .cycle) (limits .chain) plan (met .0) least served k
+Inv-loop pool limits plan records before₀ k₀ before k = (k ≤ records) × Checking (graphOf pool) (limits .cycle) (limits .chain) plan (before .met .0) (before .least) (before .served) k
 
 abbrev μ-loop : tie.MeasureT-loop
-μ-loop pool limits plan records met₀ least₀ served₀ k₀ met least served k = records - k
+μ-loop pool limits plan records before₀ k₀ before k = records - k
 
 returns : tie.Need-returns Inv-loop μ-loop
 returns c = let s = c .before .before in sym (check-length _ _ _ (now (s .args .plan)) (c .if1 .taken))
@@ -44,26 +44,14 @@ check-record-requires : tie.Need-check-record-requires Inv-loop μ-loop
 check-record-requires c κs =
     let l = c .before .before in
     let s = l .before .before .before in
-    (fits-size (s .args .pool) (s .pre), ap length (part-record (l .loop .k) (now (s .args .plan))) ∙ record-whole (now (s .args .plan)) (l .loop .k) (omega arith))
+    let plan = now (s .args .plan) in
+    let most = checking-most _ _ _ plan (l .loop .inv .1) in (
+      s .pre,
+      (omega (arith, most, fits-size (s .args .pool) (s .pre)), ap length (part 16 (l .loop .k) plan) ∙ part-length 16 (l .loop .k) plan (omega arith)),
+    )
 
 enum-known-answer : tie.Need-enum-known-answer Inv-loop μ-loop
 enum-known-answer c = search needs
-
-add-least : tie.Need-add-least Inv-loop μ-loop
-add-least c =
-    let a = c .before .before .before in
-    let k = a .before .before in
-    let t = k .before .before in
-    let s = t .before .before .before .before in
-    omega (arith, fits-size (s .args .pool) (s .pre), turn-first (t .before .loop .inv .1) (t .loop-test .taken) (k .check-record .ensures) (a .answer .given .1))
-
-add-served : tie.Need-add-served Inv-loop μ-loop
-add-served c =
-    let a = c .before .before .before .before in
-    let k = a .before .before in
-    let t = k .before .before in
-    let s = t .before .before .before .before in
-    omega (arith, fits-size (s .args .pool) (s .pre), turn-most (t .before .loop .inv .1) (t .loop-test .taken) (k .check-record .ensures) (a .answer .given .1))
 
 enum-known-answer-2 : tie.Need-enum-known-answer-2 Inv-loop μ-loop
 enum-known-answer-2 c = search needs
@@ -82,7 +70,7 @@ loop-less c = omega arith
 
 loop-again : tie.Need-loop-again Inv-loop μ-loop
 loop-again c =
-    let a = c .before .before .before .before in
+    let a = c .before in
     let k = a .before .before in
     let t = k .before .before in
     (omega arith, turn-next (t .before .loop .inv .1) (t .loop-test .taken) (k .check-record .ensures) (a .answer .given .1))
@@ -105,8 +93,6 @@ check-records-spec =
     part-check-record-end
     check-record-requires
     enum-known-answer
-    add-least
-    add-served
     enum-known-answer-2
     returns-2
     add-k

@@ -4,7 +4,8 @@ use Prim.Native.Nat.{suc, _*_, _≤_, _<_}
 use native.Mathlib.Omega.{arith}
 use denote.Ref.{now}
 use lib.ListN.{length}
-use Rattle.plans.proofs.RecordLaws.{part-record, part-there, place-there, part-missing, place-missing}
+use Rattle.kep.proofs.Cut.{part}
+use Rattle.plans.proofs.RecordLaws.{part-there, place-there, part-missing, place-missing}
 use Rattle.plans.proofs.record_part.record.Statement.{statement}
 use Rattle.plans.proofs.record_part.record.Tie as tie
 
@@ -36,7 +37,7 @@ returns : tie.Need-returns
 returns c =
     let a = c .before .before .args in
     let there : 16 * suc (a .k) ≤ length (now (a .plan)) = omega arith in
-    (part-record (a .k) (now (a .plan)) ∙ part-there (a .plan .ptr) (now (a .plan)) (a .k) there, place-there (a .plan .ptr) (now (a .plan)) (a .k) there)
+    (part 16 (a .k) (now (a .plan)) ∙ part-there (a .plan .ptr) (now (a .plan)) (a .k) there, place-there (a .plan .ptr) (now (a .plan)) (a .k) there)
 
 returns-2 : tie.Need-returns-2
 returns-2 c =

@@ -4,7 +4,7 @@ use Prim.Native.Nat.{_-_, _*_, _≤_}
 use native.Mathlib.Omega.{arith}
 use lib.ListN.{length}
 use Rattle.kep.specs.Lists.{cut}
-use Rattle.plans.proofs.RecordLaws.{part-record, record-whole}
+use Rattle.kep.proofs.Cut.{part, part-length}
 use Rattle.report.specs.Text.{recordLine, recordLines}
 use Rattle.report.proofs.Adding.{Going, going-start, going-on, going-end, said}
 use Rattle.report.proofs.LineLaws.{linesFrom, lines-start, lines-next, lines-end}
@@ -40,7 +40,7 @@ put-record-requires c κs =
     let l = c .before .before .before in
     let plan = now (l .before .before .before .args .plan) in
     let k = l .loop .k in
-    (ap length (part-record k plan) ∙ record-whole plan k (omega (arith, l .before .before .before .pre .0)), omega (arith, l .before .before .before .pre .1, l .loop .inv .1 .short, l .loop .inv .1 .same))
+    (ap length (part 16 k plan) ∙ part-length 16 k plan (omega (arith, l .before .before .before .pre .0)), omega (arith, l .before .before .before .pre .1, l .loop .inv .1 .short, l .loop .inv .1 .same))
 
 add-k : tie.Need-add-k Inv-loop μ-loop
 add-k c = omega arith
@@ -56,7 +56,7 @@ loop-again c =
     let k = l .loop .k in (
       omega arith,
       going-on (lines-next (now (a .plan)) (a .records) k (omega arith)) (omega arith) (l .loop .inv .1)
-          (said (ap recordLine (part-record k (now (a .plan)))) (p .put-record .ensures)),
+          (said (ap recordLine (part 16 k (now (a .plan)))) (p .put-record .ensures)),
     )
 
 same-length : tie.Need-same-length Inv-loop μ-loop

@@ -2,10 +2,10 @@ use denote.Ref.{now}
 use mathlib.Core.Path.{_≡_, sym}
 use native.Mathlib.Omega.{arith}
 use borrow.Author.Needs.{needs}
-use Rattle.pool.specs.Records.{readPool}
+use Rattle.reading.specs.Records.{readPool}
 use Rattle.pool.specs.Refusals.{accepted}
 use Rattle.pool.proofs.Tested.{outcome-accepted, outcome-refused}
-use Rattle.pool.proofs.ReadPool.{read-fits}
+use Rattle.reading.proofs.ReadPool.{read-fits}
 use Rattle.report.proofs.Adding.{roomier, said}
 use Rattle.report.proofs.Spots.{read-spot}
 use Rattle.report.proofs.Composing.{pool-refused, limits-refused, limits-two}

@@ -40,16 +40,16 @@ told-no k =
     told-refused (a .value) (a .limits) (only m) (sym (ap clearedOutcome (k .cleared2 .given .1)) ∙ m .clear-value .ensures .0)
 
 slice-aggregate-clear-value : tie.Need-slice-aggregate-clear-value
-slice-aggregate-clear-value c = search needs
+slice-aggregate-clear-value c = sym (length-replicate {A = ℕ} 16384 0)
 
 slice-aggregate-clear-value-2 : tie.Need-slice-aggregate-clear-value-2
-slice-aggregate-clear-value-2 c = search needs
+slice-aggregate-clear-value-2 c = sym (length-replicate {A = ℕ} 16384 0)
 
 slice-aggregate-clear-value-3 : tie.Need-slice-aggregate-clear-value-3
-slice-aggregate-clear-value-3 c = search needs
+slice-aggregate-clear-value-3 c = sym (length-replicate {A = ℕ} 224 0)
 
 clear-value-requires : tie.Need-clear-value-requires
-clear-value-requires c κs = search needs
+clear-value-requires c κs = tt
 
 enum-known-cleared : tie.Need-enum-known-cleared
 enum-known-cleared c = search needs
@@ -58,7 +58,7 @@ sub-put-served : tie.Need-sub-put-served
 sub-put-served c = let s = c .before .before .before .before .before .before .before .before .before .before .before .before .before in fits-altruists (s .args .value) (s .pre .0)
 
 put-served-requires : tie.Need-put-served-requires
-put-served-requires c κs = search needs
+put-served-requires c κs = let s = c .before .before .before .before .before .before .before .before .before .before .before .before .before in omega (arith, s .pre .1)
 
 slice-aggregate-put-records : tie.Need-slice-aggregate-put-records
 slice-aggregate-put-records c = search needs
@@ -79,7 +79,9 @@ put-refused-requires : tie.Need-put-refused-requires
 put-refused-requires c κs = let k = c .before .before in (omega (arith, told-no k .0), omega (arith, k .before .before .before .before .before .before .before .before .before .before .pre .1))
 
 same-length : tie.Need-same-length
-same-length c = search needs
+same-length c =
+    let p = c .before .before in
+    p .put-records .ensures .same ∙ p .before .before .before .before .before .put-served .ensures .same
 
 returns : tie.Need-returns
 returns c =
@@ -90,7 +92,7 @@ returns c =
     roomier (omega (arith, few k)) (said (plan-text (s .args .value) (s .args .limits) (s .pre .0) (told k)) (then (v .put-served .ensures) (p .put-records .ensures)))
 
 same-length-2 : tie.Need-same-length-2
-same-length-2 c = search needs
+same-length-2 c = c .before .before .put-refused .ensures .same
 
 returns-2 : tie.Need-returns-2
 returns-2 c =

@@ -1,16 +1,12 @@
 use borrow.Author.Needs.{needs}
-use mathlib.Core.Path.{_≡_}
-use Prim.Native.Nat.{_*_, _%_, _^_}
 use native.Mathlib.Omega.{arith}
 use lib.Dec.{T}
-use lib.Pow.{pow-mono}
 use Rattle.pool.specs.declared.value.Pool.{Pool}
 use Rattle.pool.specs.Value.{poolFits}
-use Rattle.kep.proofs.Operations.{one-shl}
 use Rattle.pool.proofs.Tested.{outcome-accepted, outcome-refused}
 use Rattle.pool.proofs.Accepted.{pool-fits}
-use Rattle.pool.proofs.ValueLaws.{fits-size, fits-altruists}
-use Rattle.tables.proofs.Preparing.{entries-are, entries-few}
+use Rattle.pool.proofs.ValueLaws.{fits-size, entries-are, entries-few}
+use Rattle.tables.proofs.BestCode.{small-entries}
 use Rattle.tables.proofs.BestCall.{pool-refused, exchanges-short, table-short, filled}
 use Rattle.tables.proofs.best.fill_best.Statement.{statement}
 use Rattle.tables.proofs.best.fill_best.Tie as tie
@@ -27,7 +23,7 @@ returns c = pool-refused _ _ _ (outcome-refused _ (c .before .verdict .given .1)
 enum-told : tie.Need-enum-told
 enum-told c = search needs
 
--- past its test the pool fits, and the shift by the altruists gives a power of 2
+-- past its test the pool fits
 module _ (c : tie.After-enum-told) where
   pool : Pool
   pool = c .before .before .before .before .before .args .pool
@@ -36,40 +32,47 @@ module _ (c : tie.After-enum-told) where
   unfolding pool
   fits = pool-fits (outcome-accepted (c .enum-told .given .1) (c .before .before .test .ensures))
 
-  altruists-is : 1 * 2 ^ pool .altruists % 2 ^ 64 ≡ 2 ^ pool .altruists
-  altruists-is = one-shl 64 (pool .altruists) (omega (arith, fits-size pool fits, fits-altruists pool fits))
-
 cast-entries : tie.Need-cast-entries
 cast-entries c = search needs
 
 shl-entries : tie.Need-shl-entries
 unfolding pool
-shl-entries c = omega (arith, fits-size (pool c) (fits c))
+shl-entries c = let t = c .before in omega (arith, fits-size (pool t) (fits t))
+
+returns-2 : tie.Need-returns-2
+unfolding pool
+returns-2 c = let t = c .before .before in exchanges-short (pool t) _ _ (fits t) (omega (arith, entries-are (pool t) (fits t)))
+
+returns-3 : tie.Need-returns-3
+unfolding pool
+returns-3 c = let t = c .before .before .before in table-short (pool t) _ _ (fits t) (omega (arith, entries-are (pool t) (fits t))) (omega (arith, entries-are (pool t) (fits t)))
+
+members-requires : tie.Need-members-requires
+members-requires c κs = search needs
 
 cast-members : tie.Need-cast-members
 cast-members c = search needs
 
-shl-members : tie.Need-shl-members
-unfolding pool
-shl-members c = omega (arith, fits-size (pool c) (fits c), fits-altruists (pool c) (fits c))
+slice-aggregate-fill-offers : tie.Need-slice-aggregate-fill-offers
+slice-aggregate-fill-offers c = search needs
 
-sub-members : tie.Need-sub-members
+fill-offers-requires : tie.Need-fill-offers-requires
 unfolding pool
-sub-members c = omega (arith, entries-are (pool c) (fits c), altruists-is c, pow-mono (fits-altruists (pool c) (fits c)))
+fill-offers-requires c κs =
+    let t = c .before .before .before .before .before .before in
+    (omega arith, omega (arith, entries-are (pool t) (fits t), entries-few (pool t) (fits t)))
 
-returns-2 : tie.Need-returns-2
-unfolding pool
-returns-2 c = exchanges-short (pool (c .before)) _ _ (fits (c .before)) (omega (arith, entries-are (pool (c .before)) (fits (c .before))))
-
-returns-3 : tie.Need-returns-3
-unfolding pool
-returns-3 c = let t = c .before .before in table-short (pool t) _ _ (fits t) (omega (arith, entries-are (pool t) (fits t))) (omega (arith, entries-are (pool t) (fits t)))
+slice-aggregate-fill-entries : tie.Need-slice-aggregate-fill-entries
+slice-aggregate-fill-entries c = search needs
 
 fill-entries-requires : tie.Need-fill-entries-requires
 unfolding pool
 fill-entries-requires c κs =
-    let t = c .before .before .before in
-    (omega (arith, entries-are (pool t) (fits t), entries-few (pool t) (fits t)), (omega arith, omega arith))
+    let f = c .before .before .before in
+    let t = f .before .before .before .before .before .before .before in (
+      omega (arith, entries-are (pool t) (fits t), entries-few (pool t) (fits t)),
+      (omega arith, small-entries _ _ _ _ (omega arith) (f .fill-offers .ensures)),
+    )
 
 same-length : tie.Need-same-length
 same-length c = search needs
@@ -77,9 +80,12 @@ same-length c = search needs
 returns-4 : tie.Need-returns-4
 unfolding pool
 returns-4 c =
-    let t = c .before .before .before .before .before .before in
-    let e = entries-are (pool t) (fits t) in
-    filled (pool t) _ _ (fits t) (omega arith) (omega arith) _ e (omega (arith, altruists-is t)) (c .before .before .fill-entries .ensures)
+    let e = c .before .before in
+    let f = e .before .before .before .before in
+    let m = f .before .before .before in
+    let t = m .before .before .before .before in
+    let n = entries-are (pool t) (fits t) in
+    filled (pool t) _ _ (fits t) (omega arith) (omega arith) n (m .members .ensures) _ (f .fill-offers .ensures) (e .fill-entries .ensures)
 
 pub fill-best-spec : {M : Type 1} → statement M
 fill-best-spec =
@@ -91,11 +97,13 @@ fill-best-spec =
     enum-told
     cast-entries
     shl-entries
-    cast-members
-    shl-members
-    sub-members
     returns-2
     returns-3
+    members-requires
+    cast-members
+    slice-aggregate-fill-offers
+    fill-offers-requires
+    slice-aggregate-fill-entries
     fill-entries-requires
     same-length
     returns-4)

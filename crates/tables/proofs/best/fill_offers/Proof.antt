@@ -7,9 +7,9 @@ use native.Mathlib.Omega.{arith}
 use denote.Ref.{now}
 use lib.Bits.{and-le-r}
 use lib.ListN.{length}
-use Rattle.kep.specs.Lists.{tabulate}
+use Rattle.kep.specs.Lists.{tabulate, writtenTo}
 use Rattle.kep.proofs.Tables.{tabulate-more}
-use Rattle.tables.specs.Calls.{writtenTo, marked}
+use Rattle.tables.specs.Calls.{marked}
 use Rattle.kep.specs.inner.BestFilling.{heldIn, offer}
 use Rattle.tables.proofs.BestCode.{offer-none, offer-worth, ones-fit}
 use Rattle.tables.proofs.best.fill_offers.Statement.{statement}

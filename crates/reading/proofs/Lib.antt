@@ -1,0 +1,7 @@
+pub mod RecordLaws
+pub mod Scanning
+pub mod Arcs
+pub mod ReadLaws
+pub mod ReadPool
+pub mod Houses
+pub mod ReadCauses

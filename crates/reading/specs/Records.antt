@@ -1,0 +1,70 @@
+-- Reading pool bytes: the causes 1 to 5, and the rule of arcs.
+use mathlib.Core.Bool.{Bool, not, _&&_, _||_}
+use mathlib.Core.List.{List, [], _∷_, _++_}
+use Prim.Native.Nat.{ℕ, _/_, _%_, _≤_, _<_}
+use lib.Dec.{T, eqb, leb}
+use lib.ListN.{length, getD}
+use Rattle.pool.specs.declared.value.Pool.{Pool}
+use Rattle.kep.specs.Lists.{keep}
+use Rattle.kep.specs.Sets.{has}
+use Rattle.pool.specs.Refusals.{Outcome, accepted, refused, tested}
+use Rattle.pool.specs.Value.{emptyPool}
+use Rattle.reading.specs.Fields.{recordWidth, mostRecords, poolRecords, tellsHouse, tellsMember, classOf, gradeOf, leastOf, takenOf}
+use Rattle.reading.specs.computed.Pool.{poolOf}
+
+-- ---- the causes of a record
+
+-- class 0 to 31, grades 0 to 100; of a house the least grade and the classes taken are 0
+unfoldable pub fieldsFit : List ℕ → Bool
+fieldsFit r =
+    leb (classOf r) 31
+    && leb (gradeOf r) 100
+    && leb (leastOf r) 100
+    && (not (tellsHouse r) || eqb (leastOf r) 0 && eqb (takenOf r) 0)
+
+-- no record among them is such
+abbrev pub noneOf : (List ℕ → Bool) → List (List ℕ) → Bool
+noneOf p rs = eqb (length (keep p rs)) 0
+
+-- the tests of a record behind the records before it, in the order of their numbers
+-- 3: kind neither 72 nor 77; 4: another field outside its range; 5: house after a member
+unfoldable pub fieldTests : List (List ℕ) → List ℕ → List (ℕ × Bool)
+fieldTests before r =
+    (3, tellsHouse r || tellsMember r) ∷ (4, fieldsFit r) ∷ (5, not (tellsHouse r) || noneOf tellsMember before) ∷ []
+
+-- record by record behind those before: `rest` where no record meets a cause
+unfoldable pub recordsTested : {A : Type 0} → List (List ℕ) → List (List ℕ) → Outcome A → Outcome A
+recordsTested before [] rest = rest
+recordsTested before (r ∷ rs) rest =
+    tested (fieldTests before r) (length before) (recordsTested (before ++ (r ∷ [])) rs rest)
+
+-- the tests of each record, behind those before it
+unfoldable pub poolTests : List (List ℕ) → List (List ℕ) → List (List (ℕ × Bool))
+poolTests before [] = []
+poolTests before (r ∷ rs) = fieldTests before r ∷ poolTests (before ++ (r ∷ [])) rs
+
+-- ---- reading
+
+-- 1: pool length no multiple of 8; 2: more than 14 records
+abbrev pub lengthTests : List ℕ → List (ℕ × Bool)
+lengthTests bytes = (1, eqb (length bytes % recordWidth) 0) ∷ (2, leb (length bytes / recordWidth) mostRecords) ∷ []
+
+-- 1 and 2, and then the records
+unfoldable pub readPool : List ℕ → Outcome Pool
+readPool bytes =
+    tested (lengthTests bytes) 0 (recordsTested [] (poolRecords bytes) (accepted (poolOf (poolRecords bytes))))
+
+-- ---- the rule of arcs, as document 01 says it
+
+-- place u gives to place v
+pub record GivesTo (bytes : List ℕ) (u v : ℕ) : Type 0 where
+  pub giver-there : u < length bytes / recordWidth
+  pub taker-there : v < length bytes / recordWidth
+  pub taker-member : T (tellsMember (getD (poolRecords bytes) v []))
+  pub class-taken : T (has (takenOf (getD (poolRecords bytes) v [])) (classOf (getD (poolRecords bytes) u [])))
+  pub grade-enough : leastOf (getD (poolRecords bytes) v []) ≤ gradeOf (getD (poolRecords bytes) u [])
+
+-- the pool beside a verdict: the empty pool beside a refusal
+abbrev pub poolBeside : Outcome Pool → Pool
+poolBeside (accepted p) = p
+poolBeside (refused number at) = emptyPool

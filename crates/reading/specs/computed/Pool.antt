@@ -1,0 +1,26 @@
+-- The pool value that records make, worked out. `arcs-by-rule`, `altruists-by-kind` and `places-are-records` (claims, proofs/Pools) say what it holds.
+use mathlib.Core.Bool.{Bool, _&&_}
+use mathlib.Core.List.{List, [], _++_}
+use Prim.Native.Nat.{ℕ, _-_}
+use lib.Dec.{leb}
+use lib.ListN.{length, getD, replicate}
+use Rattle.pool.specs.declared.value.Pool.{Pool}
+use Rattle.kep.specs.Lists.{keep, tabulate}
+use Rattle.kep.specs.Sets.{has, setWhere}
+use Rattle.reading.specs.Fields.{mostRecords, classOf, gradeOf, leastOf, takenOf, tellsHouse, tellsMember}
+
+-- the giver's record gives to the taker's: the taker is a member, takes the class given, and the grade is at least its least
+unfoldable pub recordGives : List ℕ → List ℕ → Bool
+recordGives giver taker = tellsMember taker && has (takenOf taker) (classOf giver) && leb (leastOf taker) (gradeOf giver)
+
+-- the set of the places that place u gives to
+unfoldable pub takersOf : List (List ℕ) → ℕ → ℕ
+takersOf rs u = setWhere (length rs) (λ v. recordGives (getD rs u []) (getD rs v []))
+
+-- places, houses, and for each place the set that it gives to; nothing from places that are not there
+unfoldable pub poolOf : List (List ℕ) → Pool
+poolOf rs = record {
+  size = length rs;
+  altruists = length (keep tellsHouse rs);
+  gives = tabulate (takersOf rs) (length rs) ++ replicate (mostRecords - length rs) 0;
+}

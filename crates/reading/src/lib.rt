@@ -1,0 +1,7 @@
+// Layer one of document 01: records and arcs. Pool bytes become a pool value, or a refusal by number and spot.
+mod pool_bytes;
+mod records;
+mod takers;
+
+pub use pool_bytes::PoolAnswer;
+pub use pool_bytes::read_pool;
