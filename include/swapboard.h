@@ -22,7 +22,8 @@ struct swap_answer {
     uint64_t second;
 };
 
-/* Reads a pool. Refused by 1 to 5. first: places; second: houses. gives: for each of 14 places the set of the places that it gives to. */
+/* Reads a pool, 12 bytes for each place. Refused by 1 to 5 and 18. first: places; second: houses. gives: for each of 14 places the set of the places that
+ * it gives to. */
 struct swap_answer swap_read_pool(const uint8_t *pool, size_t pool_length, uint16_t gives[14]);
 
 /* Fills the exchange table of a pool value: for every set of places, those that can stand last in a ring or chain that uses exactly the set and begins at
@@ -35,14 +36,14 @@ struct swap_answer swap_fill_exchanges(uint8_t places, uint8_t houses, const uin
 struct swap_answer swap_fill_best(uint8_t places, uint8_t houses, const uint16_t gives[14], const uint16_t *exchanges, size_t exchanges_length,
                                   uint8_t *table, size_t table_length);
 
-/* Clears a pool: the plan that serves most members, and among those the one whose records come first byte by byte. Refused by 1 to 5, 7, 8, 9, 10: for n
- * places each table needs 2 to the power n entries and the plan 16 * n bytes (16384 and 224 are enough for every pool). first: members served; second:
- * records, which stand at the front of plan. Both tables are filled; all beyond the entries and records named is untouched. */
+/* Clears a pool: the plan that serves most members, and among those the one whose records come first byte by byte. Refused as reading is, and by
+ * 7, 8, 9, 10: for n places each table needs 2 to the power n entries and the plan 16 * n bytes (16384 and 224 are enough for every pool). first: members
+ * served; second: records, which stand at the front of plan. Both tables are filled; all beyond the entries and records named is untouched. */
 struct swap_answer swap_clear(const uint8_t *pool, size_t pool_length, uint8_t lc, uint8_t lp, uint16_t *exchanges, size_t exchanges_length,
                               uint8_t *best, size_t best_length, uint8_t *plan, size_t plan_length);
 
-/* Checks a plan: accepted where its bytes are the record form of a legal plan of the pool under the limits. Refused by 1 to 5, 7, 11 to 17. first: members
- * served. */
+/* Checks a plan: accepted where its bytes are the record form of a legal plan of the pool under the limits. Refused as reading is, and
+ * by 7, 11 to 17. first: members served. */
 struct swap_answer swap_check(const uint8_t *pool, size_t pool_length, uint8_t lc, uint8_t lp, const uint8_t *plan, size_t plan_length);
 
 #ifdef __cplusplus

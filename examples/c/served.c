@@ -7,17 +7,17 @@
 
 #include "swapboard.h"
 
-enum { RECORD = 8, PLACES = 6, HOUSES = 1, PLAN_RECORD = 16, RING = 82, NO_PLACE = 255 };
+enum { RECORD = 12, PLACES = 6, HOUSES = 1, PLAN_RECORD = 16, RING = 82, NO_PLACE = 255 };
 enum { LC = 2, LP = 2 };
 
-/* Kind, class, grade, least grade taken, classes taken (four bytes). */
+/* Kind, class, grade, least grade taken, classes taken (four bytes), weeks waited and machine number (two bytes each, the low one first). */
 static const uint8_t pool[PLACES * RECORD] = {
-    72, 0, 50, 0,  0,  0, 0, 0, /* a house machine */
-    77, 1, 50, 40, 5,  0, 0, 0, /* members from here on */
-    77, 2, 50, 40, 2,  0, 0, 0,
-    77, 3, 50, 40, 20, 0, 0, 0,
-    77, 4, 50, 40, 8,  0, 0, 0,
-    77, 5, 50, 40, 16, 0, 0, 0,
+    72, 0, 50, 0,  0,  0, 0, 0, 0, 0, 1, 0, /* a house machine */
+    77, 1, 50, 40, 5,  0, 0, 0, 0, 0, 2, 0, /* members from here on */
+    77, 2, 50, 40, 2,  0, 0, 0, 0, 0, 3, 0,
+    77, 3, 50, 40, 20, 0, 0, 0, 0, 0, 4, 0,
+    77, 4, 50, 40, 8,  0, 0, 0, 0, 0, 5, 0,
+    77, 5, 50, 40, 16, 0, 0, 0, 0, 0, 6, 0,
 };
 
 /* The room that six places need; the routine allocates nothing itself. */

@@ -12,17 +12,17 @@ import sys
 import tempfile
 
 PROJECT = pathlib.Path(__file__).resolve().parents[2]
-RECORD, PLAN_RECORD, HOUSE, RING, NO_PLACE = 8, 16, 72, 82, 255
+RECORD, PLAN_RECORD, HOUSE, RING, NO_PLACE = 12, 16, 72, 82, 255
 LC, LP = 2, 2
 
-# Kind, class, grade, least grade taken, classes taken (four bytes).
+# Kind, class, grade, least grade taken, classes taken (four bytes), weeks waited and machine number (two bytes each, the low one first).
 POOL_A = [
-    [72, 0, 50, 0, 0, 0, 0, 0],
-    [77, 1, 50, 40, 5, 0, 0, 0],
-    [77, 2, 50, 40, 2, 0, 0, 0],
-    [77, 3, 50, 40, 20, 0, 0, 0],
-    [77, 4, 50, 40, 8, 0, 0, 0],
-    [77, 5, 50, 40, 16, 0, 0, 0],
+    [72, 0, 50, 0, 0, 0, 0, 0, 0, 0, 1, 0],
+    [77, 1, 50, 40, 5, 0, 0, 0, 0, 0, 2, 0],
+    [77, 2, 50, 40, 2, 0, 0, 0, 0, 0, 3, 0],
+    [77, 3, 50, 40, 20, 0, 0, 0, 0, 0, 4, 0],
+    [77, 4, 50, 40, 8, 0, 0, 0, 0, 0, 5, 0],
+    [77, 5, 50, 40, 16, 0, 0, 0, 0, 0, 6, 0],
 ]
 
 

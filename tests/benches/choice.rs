@@ -5,6 +5,7 @@
 use swapboard_tests::baseline::plan::{write_plan, Filled, Scratch};
 use swapboard_tests::baseline::tables::{fill_best, fill_exchanges};
 use swapboard_tests::bench_pools::{pools_of_fourteen, pools_of_six, BenchPool};
+use swapboard_tests::layout::MOST_PLACES;
 use swapboard_tests::oracle::exchange::Limits;
 use swapboard_tests::oracle::plan::record_form;
 use swapboard_tests::oracle::pool::Pool;
@@ -14,8 +15,7 @@ use swapboard_tests::samples::pool_with;
 use swapboard_tests::search::{search, Found};
 use swapboard_tests::timing::{print_heading, print_row};
 
-const PLACES: usize = 14;
-const ENTRIES: usize = 1 << PLACES;
+const ENTRIES: usize = 1 << MOST_PLACES;
 
 /// The houses and the limits of each climb, and the arcs that it tries to change.
 const CLIMBS: [(usize, u8, u8); 6] = [
@@ -115,8 +115,8 @@ fn choice(title: &str, pools: &[BenchPool]) {
 fn time_choice(name: &str, pool: &Pool, case: &Case) {
     let filled = Filled::new(&case.value, &case.worth, &case.best);
     let mut scratch = Scratch::default();
-    let mut plan = vec![0; 16 * PLACES];
-    let mut beside = vec![0; 16 * PLACES];
+    let mut plan = vec![0; 16 * MOST_PLACES];
+    let mut beside = vec![0; 16 * MOST_PLACES];
     let mut records = (0, 0);
     print_row(
         name,
@@ -134,12 +134,12 @@ fn time_choice(name: &str, pool: &Pool, case: &Case) {
 /// Single arcs are changed while the search does not get shorter.
 fn climb(random: &mut Random, houses: usize, limits: Limits) -> Case {
     let percent = random.between(30, 95);
-    let gives = random_arcs(random, PLACES, houses, percent, 0);
-    let mut case = Case::new(&pool_with(PLACES, houses, gives), limits);
+    let gives = random_arcs(random, MOST_PLACES, houses, percent, 0);
+    let mut case = Case::new(&pool_with(MOST_PLACES, houses, gives), limits);
     let mut longest = case.search().entered;
     for _ in 0..STEPS {
-        let giver = random.below(PLACES);
-        let arc = 1 << random.between(houses, PLACES - 1);
+        let giver = random.below(MOST_PLACES);
+        let arc = 1 << random.between(houses, MOST_PLACES - 1);
         case.value.gives[giver] ^= arc;
         case.fill();
         let entered = case.search().entered;

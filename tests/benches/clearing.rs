@@ -4,12 +4,12 @@ use swapboard_tests::baseline;
 use swapboard_tests::baseline::clear::Workspace;
 use swapboard_tests::bench_pools::{pools_of_fourteen, pools_of_six, BenchPool};
 use swapboard_tests::calls;
+use swapboard_tests::layout::MOST_PLACES;
 use swapboard_tests::oracle::exchange::Limits;
 use swapboard_tests::pools::PoolValue;
 use swapboard_tests::samples::bytes_of_pool;
 use swapboard_tests::timing::{print_heading, print_row};
 
-const MOST_PLACES: usize = 14;
 const ENTRIES: usize = 1 << MOST_PLACES;
 
 /// Reading and checking rest on few things: these pools are enough for them.

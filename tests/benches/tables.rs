@@ -3,12 +3,13 @@
 use swapboard_tests::baseline::tables as baseline;
 use swapboard_tests::bench_pools::{pools_of_fourteen, pools_of_six, BenchPool};
 use swapboard_tests::calls::{fill_best, fill_exchanges};
+use swapboard_tests::layout::MOST_PLACES;
 use swapboard_tests::oracle::exchange::Limits;
 use swapboard_tests::pools::PoolValue;
 use swapboard_tests::timing::{print_heading, print_row};
 
 /// Enough for every pool.
-const ENTRIES: usize = 1 << 14;
+const ENTRIES: usize = 1 << MOST_PLACES;
 
 fn exchange_tables(title: &str, pools: &[BenchPool]) {
     print_heading(title);

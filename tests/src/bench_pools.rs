@@ -2,7 +2,9 @@
 
 use crate::oracle::exchange::Limits;
 use crate::oracle::pool::{places_of, read, Pool};
-use crate::pools::{all_arcs, bytes_of, layers, one_ring, random_arcs, rising_arcs, Record};
+use crate::pools::{
+    all_arcs, bytes_of, layers, numbered, one_ring, random_arcs, rising_arcs, Record,
+};
 use crate::random::Random;
 use crate::samples::pool_with;
 
@@ -62,7 +64,7 @@ fn shops() -> Vec<BenchPool> {
             let taken = 1 << random.below(6) | 1 << random.below(6);
             Record::member(class, grade, random.between(0, 70) as u8, taken)
         };
-        let records: Vec<Record> = (0..14).map(record).collect();
+        let records = numbered((0..14).map(record));
         read(&bytes_of(&records)).expect("faultless records").gives
     };
     vec![

@@ -1,5 +1,6 @@
 //! The C interface and its safe wrappers.
 
+use crate::layout::MOST_PLACES;
 use crate::oracle::exchange::Limits;
 use crate::pools::PoolValue;
 use crate::refusal::Refusal;
@@ -81,7 +82,7 @@ extern "C" {
     ) -> Answer;
 }
 
-pub fn read_pool(pool: &[u8], gives: &mut [u16; 14]) -> Answer {
+pub fn read_pool(pool: &[u8], gives: &mut [u16; MOST_PLACES]) -> Answer {
     // SAFETY: pointer and length are those of a live slice, and `gives` has 14 entries.
     unsafe { swap_read_pool(pool.as_ptr(), pool.len(), gives.as_mut_ptr()) }
 }

@@ -4,6 +4,7 @@ pub mod baseline;
 pub mod bench_pools;
 pub mod calls;
 pub mod large;
+pub mod layout;
 pub mod lent;
 pub mod misses;
 pub mod operations;

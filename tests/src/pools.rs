@@ -1,19 +1,15 @@
 //! Generators of pools: bytes by records with random fields or by wanted arcs,
 //! and pool values.
 
+use crate::layout::*;
 use crate::random::Random;
-
-pub const RECORD: usize = 8;
-pub const MOST_PLACES: usize = 14;
-pub const HOUSE: u8 = 72;
-pub const MEMBER: u8 = 77;
 
 /// A pool as the C interface takes it, with room for every value, also the wrong ones.
 #[derive(Clone, Copy, Debug, PartialEq, Eq)]
 pub struct PoolValue {
     pub places: u8,
     pub houses: u8,
-    pub gives: [u16; 14],
+    pub gives: [u16; MOST_PLACES],
 }
 
 /// A pool record with room for every value, also the wrong ones.
@@ -24,9 +20,12 @@ pub struct Record {
     pub grade: u8,
     pub least: u8,
     pub taken: u32,
+    pub weeks: u16,
+    pub machine: u16,
 }
 
 impl Record {
+    /// A house of weeks 0 and machine number 1.
     pub fn house(class: u8, grade: u8) -> Self {
         Record {
             kind: HOUSE,
@@ -34,9 +33,12 @@ impl Record {
             grade,
             least: 0,
             taken: 0,
+            weeks: 0,
+            machine: 1,
         }
     }
 
+    /// A member of weeks 0 and machine number 1.
     pub fn member(class: u8, grade: u8, least: u8, taken: u32) -> Self {
         Record {
             kind: MEMBER,
@@ -44,13 +46,20 @@ impl Record {
             grade,
             least,
             taken,
+            weeks: 0,
+            machine: 1,
         }
     }
 
     pub fn bytes(self) -> [u8; RECORD] {
-        let taken = self.taken.to_le_bytes();
-        let mut bytes = [self.kind, self.class, self.grade, self.least, 0, 0, 0, 0];
-        bytes[4..].copy_from_slice(&taken);
+        let mut bytes = [0; RECORD];
+        bytes[KIND] = self.kind;
+        bytes[CLASS] = self.class;
+        bytes[GRADE] = self.grade;
+        bytes[LEAST_GRADE] = self.least;
+        bytes[CLASSES_TAKEN..][..4].copy_from_slice(&self.taken.to_le_bytes());
+        bytes[WEEKS..][..2].copy_from_slice(&self.weeks.to_le_bytes());
+        bytes[MACHINE_NUMBER..][..2].copy_from_slice(&self.machine.to_le_bytes());
         bytes
     }
 }
@@ -59,20 +68,29 @@ pub fn bytes_of(records: &[Record]) -> Vec<u8> {
     records.iter().flat_map(|record| record.bytes()).collect()
 }
 
+/// The records with "place plus 1 as machine number".
+pub fn numbered(records: impl IntoIterator<Item = Record>) -> Vec<Record> {
+    let mut records: Vec<Record> = records.into_iter().collect();
+    for (record, machine) in records.iter_mut().zip(1..) {
+        record.machine = machine;
+    }
+    records
+}
+
 /// Pool A of the document.
 pub fn pool_a() -> Vec<u8> {
     let mut records = vec![Record::house(0, 50)];
     for (class, taken) in [(1, 5), (2, 2), (3, 20), (4, 8), (5, 16)] {
         records.push(Record::member(class, 50, 40, taken));
     }
-    bytes_of(&records)
+    bytes_of(&numbered(records))
 }
 
 /// Pool B of the document.
 pub fn pool_b() -> Vec<u8> {
     let takes = [(0, 12), (1, 5), (2, 2), (3, 1)];
     let records = takes.map(|(class, taken)| Record::member(class, 50, 40, taken));
-    bytes_of(&records)
+    bytes_of(&numbered(records))
 }
 
 /// How the fields of random records are drawn.
@@ -123,12 +141,46 @@ impl Fields {
     }
 }
 
+/// Weeks up to the greatest; edges and a byte of 0 come often.
+fn random_weeks(random: &mut Random) -> u16 {
+    match random.below(3) {
+        0 => random.pick(&[0, 1, GREATEST_WEEKS - 1, GREATEST_WEEKS]),
+        1 => random.pick(&[255, 256, 512, 768]),
+        _ => random.between(0, GREATEST_WEEKS.into()) as u16,
+    }
+}
+
+/// Any machine number but 0; edges and a byte of 0 come often.
+fn random_machine(random: &mut Random) -> u16 {
+    match random.below(4) {
+        0 => random.pick(&[1, 255, 256, GREATEST_WEEKS + 1, 65_280, u16::MAX]),
+        1 => random.between(1, 255) as u16,
+        2 => (random.between(1, 255) as u16) << 8,
+        _ => random.between(1, u16::MAX.into()) as u16,
+    }
+}
+
+/// Puts other weeks and machine numbers, all of them different, into the records.
+pub fn draw_weeks_and_machines(random: &mut Random, records: &mut [Record]) {
+    let mut machines = Vec::new();
+    for record in records {
+        record.weeks = random_weeks(random);
+        record.machine = random_machine(random);
+        while machines.contains(&record.machine) {
+            record.machine = random_machine(random);
+        }
+        machines.push(record.machine);
+    }
+}
+
 /// Faultless records, houses first.
 pub fn random_records(random: &mut Random, places: usize, houses: usize) -> Vec<Record> {
     let fields = Fields::random(random);
-    (0..places)
+    let mut records: Vec<Record> = (0..places)
         .map(|place| fields.record(random, place < houses))
-        .collect()
+        .collect();
+    draw_weeks_and_machines(random, &mut records);
+    records
 }
 
 /// A faultless pool of a random number of houses.
@@ -143,9 +195,9 @@ pub fn damage(random: &mut Random, pool: &mut [u8]) {
     pool[at] = random.byte();
 }
 
-/// A pool with just these arcs: place u gives class u, so every list of arcs
+/// Records with just these arcs: place u gives class u, so every list of arcs
 /// into members can be had.
-pub fn bytes_of_arcs(houses: usize, gives: &[Vec<usize>]) -> Vec<u8> {
+pub fn records_of_arcs(houses: usize, gives: &[Vec<usize>]) -> Vec<Record> {
     let record = |place: usize| {
         if place < houses {
             return Record::house(place as u8, 50);
@@ -153,8 +205,12 @@ pub fn bytes_of_arcs(houses: usize, gives: &[Vec<usize>]) -> Vec<u8> {
         let givers = (0..gives.len()).filter(|&giver| gives[giver].contains(&place));
         Record::member(place as u8, 50, 50, givers.map(|giver| 1 << giver).sum())
     };
-    let records: Vec<Record> = (0..gives.len()).map(record).collect();
-    bytes_of(&records)
+    numbered((0..gives.len()).map(record))
+}
+
+/// The pool of those records.
+pub fn bytes_of_arcs(houses: usize, gives: &[Vec<usize>]) -> Vec<u8> {
+    bytes_of(&records_of_arcs(houses, gives))
 }
 
 /// Each arc into a member with the given chance, arcs of a place to itself with their own.

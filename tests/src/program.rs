@@ -14,8 +14,8 @@ use std::{env, fs, process};
 
 /// The environment variable that names another program than the project's.
 const PROGRAM: &str = "SWAPBOARD_PROGRAM";
-/// "Its first 128 bytes count as the whole file."
-const COUNTED: usize = 128;
+/// "The program reads 192 bytes", which "count as the whole file".
+pub const COUNTED: usize = 192;
 /// The most places for which all legal plans are soon compared.
 const BRUTE_FORCE_PLACES: usize = 7;
 

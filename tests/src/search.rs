@@ -1,9 +1,10 @@
 //! The choice of the plan by a search depth first, and how much it looks at.
 
 use crate::baseline::pool::{givers_of, places_in};
+use crate::layout::MOST_PLACES;
 use crate::oracle::exchange::Limits;
 use crate::oracle::plan::Plan;
-use crate::pools::{PoolValue, MOST_PLACES};
+use crate::pools::PoolValue;
 
 /// A plan with the number of pairs (set, last place) that the search entered.
 #[derive(Default)]

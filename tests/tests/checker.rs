@@ -2,6 +2,7 @@
 
 use std::collections::BTreeMap;
 use swapboard_tests::calls::{self, Answer};
+use swapboard_tests::layout::*;
 use swapboard_tests::lent::Lent;
 use swapboard_tests::misses::{misses_at, Miss};
 use swapboard_tests::oracle::check::check;
@@ -102,13 +103,10 @@ fn rows_of_the_document() {
 #[test]
 fn records_told_one_by_one() {
     let random = &mut Random::new(402);
-    let itself = Record::member(9, 50, 40, 1 << 9);
-    let pool = [
-        &bytes_of(&[Record::house(31, 50)]),
-        &pool_a()[..],
-        &bytes_of(&[itself]),
-    ]
-    .concat();
+    let mut house = Record::house(31, 50);
+    let mut itself = Record::member(9, 50, 40, 1 << 9);
+    (house.machine, itself.machine) = (71, 72);
+    let pool = [&house.bytes(), &pool_a()[..], &itself.bytes()].concat();
     let at = Limits::new;
     let mut refused = |limits, record: &[u8], number| {
         expect_refused(random, &pool, limits, record, number, 0);
@@ -385,19 +383,81 @@ fn faults_of_the_pool_come_first() {
     for _ in 0..4_000 {
         let places = random.between(1, MOST_PLACES);
         let mut pool = random_pool(random, places);
-        if random.chance(70) {
-            damage(random, &mut pool);
+        match random.below(3) {
+            0 => damage(random, &mut pool),
+            1 => pool = pool_of_two_faults(random, places),
+            _ => {}
         }
         if random.chance(20) {
             pool.truncate(random.below(pool.len()));
         }
         if random.chance(10) {
-            pool.resize(120, MEMBER);
+            pool.resize((MOST_PLACES + 1) * RECORD, MEMBER);
         }
         let len = random.pick(&[0, 7, 16, 17, 32]);
         let plan = random.bytes(len);
         let limits = Limits::new(random.between(0, 16) as u8, random.between(0, 16) as u8);
         compare(random, &pool, limits, &plan);
+    }
+}
+
+/// Pool A with each fault of a record, and the other faults of a pool, before limits and
+/// plans that meet every later number.
+#[test]
+fn every_fault_of_the_pool_before_every_other() {
+    let random = &mut Random::new(418);
+    let mut pools = faulty_pools(random, 6, 1, 4);
+    for at in 0..6 {
+        for (bytes, values) in [(WEEKS, [232, 3]), (WEEKS, [0, 4]), (MACHINE_NUMBER, [0, 0])] {
+            let mut pool = pool_a();
+            pool[at * RECORD + bytes..][..2].copy_from_slice(&values);
+            pools.push((pool, 18, at));
+        }
+    }
+    let chain = chain(&[0, 1, 2]);
+    let plans = [
+        (11, vec![255; 15]),
+        (11, vec![255; 17]),
+        (12, raw_record(&[255], 0, 0)),
+        (13, chain.repeat(2)),
+        (14, raw_record(&[2, 1], 82, 2)),
+        (15, raw_record(&[1, 3], 82, 2)),
+        (16, raw_record(&[0, 1, 2, 3], 67, 3)),
+        (17, raw_record(&[1, 2], 67, 2)),
+        (0, chain),
+        (0, Vec::new()),
+    ];
+    for (number, plan) in &plans {
+        let a = check(&pool_a(), Limits::new(2, 2), plan);
+        assert_eq!(a.err().map_or(0, |refusal| refusal.number), *number);
+        for (pool, number, at) in &pools {
+            for limits in [Limits::new(2, 2), Limits::new(2, 15), Limits::new(255, 2)] {
+                expect_refused(random, pool, limits, plan, *number, *at);
+            }
+        }
+    }
+}
+
+/// Pools that differ in weeks and machine numbers alone have the same legal plans.
+#[test]
+fn weeks_and_machine_numbers_make_no_difference() {
+    let random = &mut Random::new(419);
+    for round in 0..1_000 {
+        let (pool, limits, plan) = pool_and_plan(random, round % (MOST_PLACES + 1));
+        let form = record_form(&pool, &plan);
+        let count = served(&pool, &plan);
+        let mut records = records_of_arcs(pool.houses, &pool.gives);
+        for _ in 0..3 {
+            draw_weeks_and_machines(random, &mut records);
+            let bytes = bytes_of(&records);
+            expect_served(random, &bytes, limits, &form, count);
+            if !plan.is_empty() {
+                let at = random.below(plan.len());
+                let miss = random_miss(random, &pool, limits, &plan, at);
+                let Miss { limits, plan, .. } = &miss;
+                expect_refused(random, &bytes, *limits, plan, miss.number, miss.at);
+            }
+        }
     }
 }
 

@@ -4,6 +4,7 @@ use swapboard_tests::baseline::clear::{self as baseline, Workspace};
 use swapboard_tests::bench_pools::{pools_of_fourteen, pools_of_six, BenchPool};
 use swapboard_tests::calls::{clear, Answer};
 use swapboard_tests::large;
+use swapboard_tests::layout::*;
 use swapboard_tests::lent::Lent;
 use swapboard_tests::oracle::exchange::Limits;
 use swapboard_tests::oracle::plan::{cleared, test_clearing, Cleared, Rooms};
@@ -132,8 +133,9 @@ fn rows_of_the_document() {
     expect_row(&pool_b(), 3, 0, 4, &[('R', &[0, 3]), ('R', &[1, 2])]);
     expect_row(&[], 3, 3, 0, &[]);
     for (least, served) in [(50, 1), (51, 0)] {
-        let pool = bytes_of(&[Record::house(0, 50), Record::member(1, 50, least, 1)]);
+        let records = numbered([Record::house(0, 50), Record::member(1, 50, least, 1)]);
         let chain: [(char, &[u8]); 1] = [('C', &[0, 1])];
+        let pool = bytes_of(&records);
         expect_row(&pool, 0, 1, served, &chain[..served as usize]);
     }
 }
@@ -554,7 +556,7 @@ fn identical_members() {
             }
             Record::member(sort as u8, 50, 50, taken[sort])
         };
-        let pool = read(&bytes_of(&(0..places).map(record).collect::<Vec<_>>())).unwrap();
+        let pool = read(&bytes_of(&numbered((0..places).map(record)))).unwrap();
         let limits = Limits::new(random.between(0, 4) as u8, random.between(0, 4) as u8);
         if places < 14 {
             compare_with_all_plans(random, &pool, limits);
@@ -670,6 +672,91 @@ fn order_of_causes() {
     }
 }
 
+/// 18 at every record, a house or a member, with all lent memory as it was; alone and with
+/// every later cause.
+#[test]
+fn wrong_weeks_and_machine_numbers_at_every_record() {
+    let random = &mut Random::new(326);
+    let none = Rooms {
+        exchanges: 0,
+        best: 0,
+        plan: 0,
+    };
+    for places in 1..=MOST_PLACES {
+        for houses in [0, places / 2, places] {
+            let records = random_records(random, places, houses);
+            for at in 0..places {
+                let mut many_weeks = records.clone();
+                many_weeks[at].weeks = random.pick(&BAD_WEEKS);
+                let mut no_machine = records.clone();
+                no_machine[at].machine = 0;
+                for faulty in [many_weeks, no_machine] {
+                    let bytes = bytes_of(&faulty);
+                    let expected = refuse(18, at);
+                    let rooms = Rooms::needed(places);
+                    expect_cleared(random, &bytes, Limits::new(3, 3), rooms, &expected);
+                    expect_cleared(random, &bytes, Limits::new(3, 15), none, &expected);
+                }
+            }
+        }
+    }
+}
+
+/// Pools that differ in weeks and machine numbers alone have the same tables and plan.
+#[test]
+fn weeks_and_machine_numbers_make_no_difference() {
+    let random = &mut Random::new(327);
+    for (places, pools) in [
+        (0, 1),
+        (1, 4),
+        (2, 40),
+        (3, 100),
+        (4, 100),
+        (5, 100),
+        (6, 60),
+    ] {
+        for _ in 0..pools {
+            let pool = some_pool(random, places);
+            let limits = random_limits(random, places);
+            let expected = cleared(&pool, limits);
+            expect_same_whatever_the_weeks(random, &pool, limits, expected);
+        }
+    }
+    for places in [8, 11, MOST_PLACES] {
+        for _ in 0..10 {
+            let pool = some_pool(random, places);
+            let limits = Limits::new(random.between(1, 4) as u8, random.between(1, 4) as u8);
+            let expected = large::cleared(&pool, limits);
+            expect_same_whatever_the_weeks(random, &pool, limits, expected);
+        }
+    }
+}
+
+/// Rising and falling with the places, and at random.
+fn expect_same_whatever_the_weeks(
+    random: &mut Random,
+    pool: &Pool,
+    limits: Limits,
+    expected: Cleared,
+) {
+    let rooms = Rooms::needed(pool.places);
+    let expected = Ok(expected);
+    let records = records_of_arcs(pool.houses, &pool.gives);
+    let mut rising = records.clone();
+    let mut falling = records.clone();
+    for place in 0..pool.places {
+        let step = place as u16;
+        rising[place].weeks = GREATEST_WEEKS - MOST_PLACES as u16 + step;
+        falling[place].weeks = GREATEST_WEEKS - step;
+        falling[place].machine = u16::MAX - step;
+    }
+    let mut drawn = records;
+    draw_weeks_and_machines(random, &mut drawn);
+    for records in [rising, falling, drawn] {
+        expect_cleared(random, &bytes_of(&records), limits, rooms, &expected);
+    }
+}
+
 #[test]
 fn damaged_pools() {
     let random = &mut Random::new(316);
@@ -678,6 +765,8 @@ fn damaged_pools() {
         let mut bytes = random_pool(random, places);
         damage(random, &mut bytes);
         let limits = random_limits(random, places);
+        compare_in_rooms(random, &bytes, limits, Rooms::needed(places));
+        let bytes = pool_of_two_faults(random, places);
         compare_in_rooms(random, &bytes, limits, Rooms::needed(places));
     }
 }

@@ -2,14 +2,16 @@
 //! program tells a fault on standard error, and only the script gives it a status.
 
 use std::fs::{self, OpenOptions};
-use std::io::{pipe, Write};
+use std::io::{pipe, ErrorKind, Write};
 use std::os::unix::fs::symlink;
 use std::path::Path;
 use std::process::{Command, Stdio};
 use std::thread::sleep;
 use std::time::Duration;
-use swapboard_tests::pools::{bytes_of_arcs, one_ring, pool_a};
-use swapboard_tests::program::{of_project, program, run, text, Files, Folder, Run};
+use swapboard_tests::layout::{MACHINE_NUMBER, MOST_PLACES, RECORD};
+use swapboard_tests::pools::{bytes_of, bytes_of_arcs, one_ring, pool_a, random_records};
+use swapboard_tests::program::{of_project, program, run, text, Files, Folder, Run, COUNTED};
+use swapboard_tests::random::Random;
 
 const NAMES: [&str; 2] = ["pool.bin", "limits.bin"];
 
@@ -69,6 +71,10 @@ fn answers_end_with_zero() {
     expect_answer(&Folder::with(&files_a()), plan);
     let refused = Files::new(&pool_a()[1..], 2, 2);
     expect_answer(&Folder::with(&refused), "refused 1 0\n");
+    let mut no_machine = pool_a();
+    no_machine[3 * RECORD + MACHINE_NUMBER] = 0;
+    let refused = Files::new(&no_machine, 2, 2);
+    expect_answer(&Folder::with(&refused), "refused 18 3\n");
     expect_answer(&Folder::new(), "refused 7 0\n");
 }
 
@@ -119,32 +125,65 @@ fn files_that_cannot_be_read_come_before_refusals() {
     }
 }
 
-/// Files that come a few bytes at a time, through standard input.
+/// What the program prints where a file comes a few bytes at a time, through standard
+/// input; it need not read all of them.
+fn printed_in_pieces(files: &Files, name: &str, piece: usize) -> String {
+    let folder = Folder::with(files);
+    let bytes = fs::read(folder.file(name)).unwrap();
+    fs::remove_file(folder.file(name)).unwrap();
+    symlink("/dev/stdin", folder.file(name)).unwrap();
+    let mut program = by_itself(folder.path());
+    program.stdin(Stdio::piped()).stdout(Stdio::piped());
+    let mut child = program.spawn().unwrap();
+    let mut stdin = child.stdin.take().unwrap();
+    for part in bytes.chunks(piece) {
+        match stdin.write_all(part) {
+            Err(error) if error.kind() == ErrorKind::BrokenPipe && bytes.len() > COUNTED => break,
+            written => written.unwrap(),
+        }
+        sleep(Duration::from_millis(2));
+    }
+    drop(stdin);
+    let output = child.wait_with_output().unwrap();
+    String::from_utf8(output.stdout).unwrap()
+}
+
 #[test]
 fn files_in_pieces() {
-    for (name, bytes) in [("pool.bin", pool_a()), ("limits.bin", vec![2, 2])] {
+    for name in NAMES {
         for piece in [1, 7, 40] {
-            let folder = Folder::with(&files_a());
-            fs::remove_file(folder.file(name)).unwrap();
-            symlink("/dev/stdin", folder.file(name)).unwrap();
-            let mut program = by_itself(folder.path());
-            program.stdin(Stdio::piped()).stdout(Stdio::piped());
-            let mut child = program.spawn().unwrap();
-            let mut stdin = child.stdin.take().unwrap();
-            for part in bytes.chunks(piece) {
-                stdin.write_all(part).unwrap();
-                sleep(Duration::from_millis(2));
-            }
-            drop(stdin);
-            let output = child.wait_with_output().unwrap();
-            let printed = String::from_utf8(output.stdout).unwrap();
+            let printed = printed_in_pieces(&files_a(), name, piece);
             assert_eq!(printed, text(&files_a()), "{name} {piece}");
         }
     }
 }
 
-/// "Its first 128 bytes count as the whole file": what stands behind them is not read,
-/// and 16 records are too many.
+/// Pools around the most records and around the bytes that count, where a piece may end in
+/// the middle of a field.
+#[test]
+fn long_pools_in_pieces() {
+    let random = &mut Random::new(701);
+    let records = bytes_of(&random_records(random, 20, 2));
+    let most = MOST_PLACES * RECORD;
+    for length in [
+        most - 1,
+        most,
+        most + RECORD,
+        COUNTED - 1,
+        COUNTED,
+        COUNTED + 1,
+        COUNTED + 9,
+    ] {
+        let files = Files::new(&records[..length], 2, 2);
+        for piece in [7, RECORD - 1, RECORD, 50, most, COUNTED - 1, COUNTED] {
+            let printed = printed_in_pieces(&files, "pool.bin", piece);
+            assert_eq!(printed, text(&files), "{length} {piece}");
+        }
+    }
+}
+
+/// "The program reads 192 bytes", which "count as the whole file": what stands behind them
+/// is not read, and 16 records are too many.
 #[test]
 fn a_file_without_an_end() {
     let folder = Folder::with(&files_a());

@@ -1,13 +1,16 @@
 //! The workshop program on whole files: all it prints, byte for byte.
 
+use swapboard_tests::layout::*;
 use swapboard_tests::pools::*;
-use swapboard_tests::program::{printed, text, Files};
+use swapboard_tests::program::{printed, text, Files, COUNTED};
 use swapboard_tests::random::Random;
 use swapboard_tests::samples::*;
 
-/// Lengths up to the counted 128 bytes and beyond, and some of long files.
+const LONGEST: usize = 70_000;
+
+/// Lengths up to the counted bytes and beyond, and some of long files.
 fn lengths() -> impl Iterator<Item = usize> {
-    (0..=160).chain([200, 255, 256, 257, 1_000, 4_096, 70_000])
+    (0..=COUNTED + 32).chain([255, 256, 257, 1_000, 4_096, LONGEST])
 }
 
 /// Limits files that are none: of another length, or with a limit above 14.
@@ -61,8 +64,8 @@ fn rows_of_the_document() {
     expect(&Files::new(&pool_b(), 3, 0), b);
     expect(&Files::new(&[], 3, 3), "served 0 of 0\n");
     for (least, printed) in [(50, "served 1 of 1\nchain 0 1\n"), (51, "served 0 of 1\n")] {
-        let pool = bytes_of(&[Record::house(0, 50), Record::member(1, 50, least, 1)]);
-        expect(&Files::new(&pool, 0, 1), printed);
+        let records = numbered([Record::house(0, 50), Record::member(1, 50, least, 1)]);
+        expect(&Files::new(&bytes_of(&records), 0, 1), printed);
     }
 }
 
@@ -113,12 +116,13 @@ fn every_number_of_houses_and_members() {
     }
 }
 
-/// 128 bytes are 16 records, so from there on no length is a broken one.
+/// The counted bytes are 16 records, so from there on no length is a broken one.
 fn expect_length_tested(pool: &[u8]) {
     let files = Files::new(pool, 3, 3);
     match pool.len() {
-        120 | 128.. => expect_refusal(&files, 2, 0),
+        COUNTED.. => expect_refusal(&files, 2, 0),
         length if length % RECORD != 0 => expect_refusal(&files, 1, 0),
+        length if length > MOST_PLACES * RECORD => expect_refusal(&files, 2, 0),
         _ => compare(&files),
     }
 }
@@ -127,7 +131,7 @@ fn expect_length_tested(pool: &[u8]) {
 #[test]
 fn every_length_of_the_pool() {
     let random = &mut Random::new(501);
-    let records = bytes_of(&random_records(random, 70_000 / RECORD, 1));
+    let records = bytes_of(&random_records(random, LONGEST / RECORD + 1, 1));
     for length in lengths() {
         expect_length_tested(&records[..length]);
     }
@@ -142,16 +146,25 @@ fn every_length_of_a_pool_of_any_bytes() {
     }
 }
 
-/// Lengths that would be refused by 1 if more than 128 bytes counted.
+/// 16 whole records, one byte fewer, and anything behind them: most of these lengths would
+/// be refused by 1 if more than the counted bytes counted.
 #[test]
-fn bytes_beyond_the_first_128() {
+fn bytes_beyond_those_that_count() {
     let random = &mut Random::new(503);
     let front = bytes_of(&random_records(random, 16, 2));
-    let alone = printed(&Files::new(&front, 3, 3));
-    for behind in [1, 2, 7, 8, 9, 64, 72, 127, 128, 129] {
+    assert_eq!(front.len(), COUNTED);
+    expect_refusal(&Files::new(&front[..COUNTED - 1], 3, 3), 1, 0);
+    expect_refusal(&Files::new(&front, 3, 3), 2, 0);
+    let around_records = [RECORD - 1, RECORD, RECORD + 1, 5 * RECORD, 5 * RECORD + 4];
+    let around_the_whole = [COUNTED - 1, COUNTED, COUNTED + 1];
+    for behind in [1, 2, 64]
+        .into_iter()
+        .chain(around_records)
+        .chain(around_the_whole)
+    {
         for tail in [vec![0; behind], vec![255; behind], random.bytes(behind)] {
             let whole = [&front[..], &tail].concat();
-            assert_eq!(printed(&Files::new(&whole, 3, 3)), alone, "{whole:?}");
+            expect_refusal(&Files::new(&whole, 3, 3), 2, 0);
         }
     }
 }
@@ -183,7 +196,7 @@ fn missing_files() {
 
 #[test]
 fn every_short_length_of_the_limits() {
-    let lengths = (0..=20).chain([127, 128, 129, 130, 258, 4_098]);
+    let lengths = (0..=20).chain([COUNTED - 1, COUNTED, COUNTED + 1, COUNTED + 2, 258, 4_098]);
     for length in lengths {
         for value in [0, 2, 14, 15] {
             let limits = vec![value; length];
@@ -233,6 +246,11 @@ fn faults(record: Record) -> Vec<(Record, u64)> {
             faults.push((Record { taken, ..record }, 4));
         }
     }
+    for weeks in BAD_WEEKS {
+        faults.push((Record { weeks, ..record }, 18));
+    }
+    let machine = 0;
+    faults.push((Record { machine, ..record }, 18));
     faults
 }
 
@@ -267,7 +285,7 @@ fn a_house_after_a_member_at_every_record() {
 /// Every value of the first four bytes of a member, those in range too.
 #[test]
 fn every_value_of_a_field() {
-    for field in 0..4 {
+    for field in [KIND, CLASS, GRADE, LEAST_GRADE] {
         for value in 0..=255 {
             let mut pool = pool_b();
             pool[2 * RECORD + field] = value;
@@ -276,42 +294,66 @@ fn every_value_of_a_field() {
     }
 }
 
+/// Weeks and machine numbers in range print what pool B prints without them.
+#[test]
+fn weeks_and_machine_numbers_make_no_difference() {
+    let b = "served 4 of 4\nring 0 3\nring 1 2\n";
+    for at in 0..4 {
+        let expect_b = |field: usize, number: u16| {
+            let mut pool = pool_b();
+            pool[at * RECORD + field..][..2].copy_from_slice(&number.to_le_bytes());
+            expect(&Files::new(&pool, 3, 0), b);
+        };
+        for weeks in GOOD_WEEKS {
+            expect_b(WEEKS, weeks);
+        }
+        for machine in GOOD_MACHINES.into_iter().filter(|&machine| machine > 4) {
+            expect_b(MACHINE_NUMBER, machine);
+        }
+    }
+}
+
 /// Two faults: the earlier record's is told, in one record the smaller number.
 #[test]
 fn the_first_of_two_faults() {
     let random = &mut Random::new(506);
-    let fault: [fn(&mut Record); 3] = [
-        |record| record.kind = 0,
-        |record| record.class = 32,
-        |record| *record = Record::house(0, 0),
-    ];
-    for (first, number) in [(0, 3), (1, 4), (2, 5)] {
-        for second in fault {
+    for (number, first) in FAULTS {
+        for (_, second) in FAULTS {
             let mut records = random_records(random, 12, 2);
-            fault[first](&mut records[4]);
+            first(&mut records[4]);
             second(&mut records[10]);
             expect_refusal(&Files::new(&bytes_of(&records), 2, 2), number, 4);
         }
     }
     let mut records = random_records(random, 12, 2);
-    records[11] = Record::house(32, 0);
-    expect_refusal(&Files::new(&bytes_of(&records), 2, 2), 4, 11);
-    records[11].kind = 0;
-    expect_refusal(&Files::new(&bytes_of(&records), 2, 2), 3, 11);
+    for (number, fault) in FAULTS.into_iter().rev() {
+        let (weeks, machine) = (1_000, 0);
+        fault(&mut records[11]);
+        records[11] = Record {
+            weeks,
+            machine,
+            ..records[11]
+        };
+        expect_refusal(&Files::new(&bytes_of(&records), 2, 2), number, 11);
+    }
 }
 
-/// 1 before 2, and both before 3 to 5.
+/// 1 before 2, and both before the records.
 #[test]
 fn lengths_before_records() {
     let random = &mut Random::new(507);
-    let mut records = random_records(random, 16, 2);
-    records[0].kind = 0;
-    let pool = bytes_of(&records);
-    expect_refusal(&Files::new(&pool[..15], 2, 2), 1, 0);
-    expect_refusal(&Files::new(&pool[..127], 2, 2), 1, 0);
-    expect_refusal(&Files::new(&pool[..120], 2, 2), 2, 0);
-    expect_refusal(&Files::new(&pool, 2, 2), 2, 0);
-    expect_refusal(&Files::new(&pool[..112], 2, 2), 3, 0);
+    for (number, fault) in FAULTS.into_iter().filter(|(number, _)| *number != 5) {
+        let mut records = random_records(random, 16, 2);
+        fault(&mut records[0]);
+        let pool = bytes_of(&records);
+        let most = MOST_PLACES * RECORD;
+        for length in [RECORD + 1, most - 1, most + 1, COUNTED - 1] {
+            expect_refusal(&Files::new(&pool[..length], 2, 2), 1, 0);
+        }
+        expect_refusal(&Files::new(&pool[..most + RECORD], 2, 2), 2, 0);
+        expect_refusal(&Files::new(&pool, 2, 2), 2, 0);
+        expect_refusal(&Files::new(&pool[..most], 2, 2), number, 0);
+    }
 }
 
 #[test]
@@ -392,6 +434,8 @@ fn damaged_pools() {
         let places = random.between(1, 6);
         let mut pool = random_pool(random, places);
         damage(random, &mut pool);
+        compare(&files_at_random_limits(random, &pool));
+        let pool = pool_of_two_faults(random, places);
         compare(&files_at_random_limits(random, &pool));
     }
 }

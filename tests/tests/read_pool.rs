@@ -1,16 +1,19 @@
 //! Reading pool bytes: every refusal at every record, and the arcs of accepted pools.
 
+use swapboard_tests::baseline::pool::read_pool as read_by_baseline;
 use swapboard_tests::calls::{read_pool, Answer};
+use swapboard_tests::layout::*;
 use swapboard_tests::lent::Lent;
 use swapboard_tests::oracle::pool::{read, Pool};
 use swapboard_tests::pools::*;
 use swapboard_tests::random::Random;
 use swapboard_tests::refusal::Refusal;
+use swapboard_tests::samples::{pool_with, Fault, BAD_WEEKS, FAULTS, GOOD_MACHINES, GOOD_WEEKS};
 
 /// Calls with garbage in `gives`; on a refusal all of it must be as it was.
-fn call(random: &mut Random, pool: &[u8]) -> (Answer, Option<[u16; 14]>) {
+fn call(random: &mut Random, pool: &[u8]) -> (Answer, Option<[u16; MOST_PLACES]>) {
     let mut lent_pool = Lent::holding(random, pool);
-    let mut gives = Lent::garbage(random, 14);
+    let mut gives = Lent::garbage(random, MOST_PLACES);
     let answer = read_pool(lent_pool.part(), gives.part().try_into().unwrap());
     lent_pool.expect_untouched(pool);
     if answer.number == 0 {
@@ -21,6 +24,7 @@ fn call(random: &mut Random, pool: &[u8]) -> (Answer, Option<[u16; 14]>) {
     (answer, None)
 }
 
+/// The expectation is told beforehand; the oracle and the baseline must agree with it.
 fn expect_refused(random: &mut Random, pool: &[u8], number: u64, at: usize) {
     let refusal = Refusal {
         number,
@@ -28,7 +32,8 @@ fn expect_refused(random: &mut Random, pool: &[u8], number: u64, at: usize) {
     };
     let (answer, _) = call(random, pool);
     assert_eq!(answer, Answer::refused(refusal), "{pool:?}");
-    assert_eq!(read(pool), Err(refusal), "{pool:?}");
+    assert_eq!(read(pool), Err(refusal), "oracle: {pool:?}");
+    assert_eq!(read_by_baseline(pool), Err(refusal), "baseline: {pool:?}");
 }
 
 fn expect_accepted(random: &mut Random, pool: &[u8], value: &Pool) {
@@ -36,6 +41,12 @@ fn expect_accepted(random: &mut Random, pool: &[u8], value: &Pool) {
     let accepted = Answer::accepted(value.places as u64, value.houses as u64);
     assert_eq!(answer, accepted, "{pool:?}");
     assert_eq!(gives, Some(value.value().gives), "{pool:?}");
+    assert_eq!(read(pool).as_ref(), Ok(value), "oracle: {pool:?}");
+    assert_eq!(
+        read_by_baseline(pool),
+        Ok(value.value()),
+        "baseline: {pool:?}"
+    );
 }
 
 /// Compares with the oracle, whatever it says.
@@ -71,8 +82,9 @@ fn expect_fault(
 #[test]
 fn every_length_of_random_and_of_valid_bytes() {
     let random = &mut Random::new(101);
-    let valid = bytes_of(&random_records(random, 25, 3));
-    for len in 0..=200 {
+    let records = MOST_PLACES + 3;
+    let valid = bytes_of(&random_records(random, records, 3));
+    for len in 0..=records * RECORD {
         let pools = [random.bytes(len), valid[..len].to_vec()];
         for pool in &pools {
             compare(random, pool);
@@ -88,6 +100,29 @@ fn every_length_of_random_and_of_valid_bytes() {
             let places = len / RECORD;
             let accepted = Answer::accepted(places as u64, places.min(3) as u64);
             assert_eq!(answer, accepted);
+        }
+    }
+}
+
+/// Records that end before the weeks, as they once did: some numbers of them are whole
+/// records, and too many of these are refused by 2.
+#[test]
+fn records_without_weeks_and_machine_number() {
+    let random = &mut Random::new(121);
+    let without = |pool: &[u8]| {
+        let records = pool.chunks(RECORD).map(|record| &record[..WEEKS]);
+        records.collect::<Vec<_>>().concat()
+    };
+    expect_refused(random, &without(&pool_a()), 3, 1);
+    expect_refused(random, &without(&pool_b()), 1, 0);
+    for records in 0..=3 * MOST_PLACES {
+        let pool = without(&bytes_of(&random_records(random, records, 1)));
+        if pool.len() % RECORD != 0 {
+            expect_refused(random, &pool, 1, 0);
+        } else if pool.len() > MOST_PLACES * RECORD {
+            expect_refused(random, &pool, 2, 0);
+        } else {
+            compare(random, &pool);
         }
     }
 }
@@ -156,8 +191,10 @@ fn a_house_that_takes_anything() {
 #[test]
 fn greatest_values_in_range_are_accepted() {
     let random = &mut Random::new(106);
-    let greatest_house = Record::house(31, 100);
-    let greatest_member = Record::member(31, 100, 100, u32::MAX);
+    let mut greatest_house = Record::house(31, 100);
+    let mut greatest_member = Record::member(31, 100, 100, u32::MAX);
+    greatest_house.weeks = GREATEST_WEEKS;
+    greatest_member.weeks = GREATEST_WEEKS;
     let least_member = Record::member(0, 0, 0, 0);
     for_all_sizes(|places, houses| {
         for member in [greatest_member, least_member] {
@@ -165,11 +202,11 @@ fn greatest_values_in_range_are_accepted() {
             records.resize(places, member);
             let takes = member.taken != 0;
             let takers: Vec<usize> = (houses..places).filter(|_| takes).collect();
-            let value = Pool {
-                places,
-                houses,
-                gives: vec![takers; places],
-            };
+            let value = pool_with(places, houses, vec![takers; places]);
+            expect_accepted(random, &bytes_of(&numbered(records.clone())), &value);
+            for (record, machine) in records.iter_mut().zip((1..=u16::MAX).rev()) {
+                record.machine = machine;
+            }
             expect_accepted(random, &bytes_of(&records), &value);
         }
     });
@@ -179,14 +216,178 @@ fn greatest_values_in_range_are_accepted() {
 fn every_value_of_every_bounded_field() {
     let random = &mut Random::new(107);
     for value in 0..=255u8 {
-        for at in 1..4 {
+        for field in [CLASS, GRADE, LEAST_GRADE] {
             for place in 0..4 {
                 let mut pool = bytes_of(&random_records(random, 4, 2));
-                pool[place * RECORD + at] = value;
+                pool[place * RECORD + field] = value;
                 compare(random, &pool);
             }
         }
     }
+}
+
+/// The records with this machine number at `at`; the record that had it gets the other.
+fn with_machine(records: &[Record], at: usize, machine: u16) -> Vec<Record> {
+    let mut records = records.to_vec();
+    let before = records[at].machine;
+    for record in &mut records {
+        if record.machine == machine {
+            record.machine = before;
+        }
+    }
+    records[at].machine = machine;
+    records
+}
+
+fn with_weeks(records: &[Record], at: usize, weeks: u16) -> Vec<Record> {
+    let mut records = records.to_vec();
+    records[at].weeks = weeks;
+    records
+}
+
+/// The pool as a value, whatever the weeks and machine numbers, or 18 at the record.
+fn expect_value_or_18(random: &mut Random, pool: &[u8], value: &Pool, at: usize, good: bool) {
+    if good {
+        expect_accepted(random, pool, value);
+    } else {
+        expect_refused(random, pool, 18, at);
+    }
+}
+
+/// Of houses and members alike.
+#[test]
+fn weeks_and_machine_numbers_at_their_edges_at_every_record() {
+    let random = &mut Random::new(122);
+    for_all_sizes(|places, houses| {
+        let gives = random_shape(random, places, houses);
+        let mut records = records_of_arcs(houses, &gives);
+        draw_weeks_and_machines(random, &mut records);
+        let value = pool_with(places, houses, gives);
+        for at in 0..places {
+            for weeks in GOOD_WEEKS {
+                let altered = with_weeks(&records, at, weeks);
+                expect_accepted(random, &bytes_of(&altered), &value);
+            }
+            for machine in GOOD_MACHINES {
+                let altered = with_machine(&records, at, machine);
+                expect_accepted(random, &bytes_of(&altered), &value);
+            }
+            for weeks in BAD_WEEKS {
+                expect_fault(random, &records, at, 18, |record| record.weeks = weeks);
+                expect_fault(random, &records, at, 18, |record| {
+                    record.weeks = weeks;
+                    record.machine = 0;
+                });
+            }
+            expect_fault(random, &records, at, 18, |record| record.machine = 0);
+        }
+    });
+}
+
+#[test]
+fn every_value_of_weeks_and_machine_number() {
+    let random = &mut Random::new(123);
+    let gives = vec![vec![1], vec![]];
+    let records = records_of_arcs(1, &gives);
+    let value = pool_with(2, 1, gives);
+    for number in 0..=u16::MAX {
+        for at in 0..records.len() {
+            let weeks = with_weeks(&records, at, number);
+            expect_value_or_18(random, &bytes_of(&weeks), &value, at, number <= 999);
+            let machine = with_machine(&records, at, number);
+            expect_value_or_18(random, &bytes_of(&machine), &value, at, number != 0);
+        }
+    }
+}
+
+/// A record of each kind with every choice of these values for the bytes of both numbers.
+#[test]
+fn bytes_of_weeks_and_machine_number() {
+    const VALUES: [u8; 7] = [0, 1, 3, 4, 231, 232, 255];
+    let random = &mut Random::new(124);
+    let choices = VALUES.len().pow(4);
+    for (record, houses) in [(Record::house(0, 50), 1), (Record::member(0, 50, 0, 0), 0)] {
+        let value = pool_with(1, houses, vec![vec![]]);
+        for choice in 0..choices {
+            let digit = |at: u32| VALUES[choice / VALUES.len().pow(at) % VALUES.len()];
+            let (low, high) = (digit(0), digit(1));
+            let (machine_low, machine_high) = (digit(2), digit(3));
+            let mut pool = record.bytes();
+            pool[WEEKS] = low;
+            pool[WEEKS + 1] = high;
+            pool[MACHINE_NUMBER] = machine_low;
+            pool[MACHINE_NUMBER + 1] = machine_high;
+            let few_weeks = high < 3 || high == 3 && low <= 231;
+            let good = few_weeks && (machine_low > 0 || machine_high > 0);
+            expect_value_or_18(random, &pool, &value, 0, good);
+        }
+    }
+}
+
+/// Whole records by hand, so that every field stands where the document has it.
+#[test]
+fn records_told_byte_by_byte() {
+    let random = &mut Random::new(125);
+    let pool = |house: [u8; 4], member: [u8; 4]| {
+        let mut pool = vec![72, 0, 50, 0, 0, 0, 0, 0];
+        pool.extend(house);
+        pool.extend([77, 1, 50, 40, 1, 0, 0, 0]);
+        pool.extend(member);
+        pool
+    };
+    let value = pool_with(2, 1, vec![vec![1], vec![]]);
+    for (bytes, good) in [
+        ([231, 3, 2, 0], true),
+        ([232, 3, 2, 0], false),
+        ([3, 231, 2, 0], false),
+        ([0, 4, 2, 0], false),
+        ([4, 0, 0, 2], true),
+        ([255, 255, 2, 0], false),
+        ([0, 0, 232, 3], true),
+        ([0, 0, 255, 255], true),
+        ([0, 0, 0, 0], false),
+    ] {
+        let sound = [0, 0, 1, 0];
+        expect_value_or_18(random, &pool(bytes, sound), &value, 0, good);
+        expect_value_or_18(random, &pool(sound, bytes), &value, 1, good);
+    }
+}
+
+/// "Pools A and B go on with weeks 0 and place plus 1 as machine number."
+#[test]
+fn pools_a_and_b_byte_by_byte() {
+    let a = [
+        [72, 0, 50, 0, 0, 0, 0, 0, 0, 0, 1, 0],
+        [77, 1, 50, 40, 5, 0, 0, 0, 0, 0, 2, 0],
+        [77, 2, 50, 40, 2, 0, 0, 0, 0, 0, 3, 0],
+        [77, 3, 50, 40, 20, 0, 0, 0, 0, 0, 4, 0],
+        [77, 4, 50, 40, 8, 0, 0, 0, 0, 0, 5, 0],
+        [77, 5, 50, 40, 16, 0, 0, 0, 0, 0, 6, 0],
+    ];
+    assert_eq!(pool_a(), a.concat());
+    let b = [
+        [77, 0, 50, 40, 12, 0, 0, 0, 0, 0, 1, 0],
+        [77, 1, 50, 40, 5, 0, 0, 0, 0, 0, 2, 0],
+        [77, 2, 50, 40, 2, 0, 0, 0, 0, 0, 3, 0],
+        [77, 3, 50, 40, 1, 0, 0, 0, 0, 0, 4, 0],
+    ];
+    assert_eq!(pool_b(), b.concat());
+}
+
+/// Pools that differ in weeks and machine numbers alone are one value.
+#[test]
+fn weeks_and_machine_numbers_make_no_difference() {
+    let random = &mut Random::new(126);
+    for_all_sizes(|places, houses| {
+        let mut records = random_records(random, places, houses);
+        let (answer, gives) = call(random, &bytes_of(&records));
+        assert_eq!(answer, Answer::accepted(places as u64, houses as u64));
+        for _ in 0..4 {
+            draw_weeks_and_machines(random, &mut records);
+            let other = call(random, &bytes_of(&records));
+            assert_eq!(other, (answer, gives), "{records:?}");
+        }
+    });
 }
 
 #[test]
@@ -207,30 +408,31 @@ fn houses_after_a_member_that_is_not_the_record_before() {
     let random = &mut Random::new(109);
     let member = Record::member(1, 50, 40, 5);
     let house = Record::house(0, 50);
-    let pool = bytes_of(&[house, member, house, house, member, house]);
-    expect_refused(random, &pool, 5, 2);
+    let records = numbered([house, member, house, house, member, house]);
+    expect_refused(random, &bytes_of(&records), 5, 2);
 }
 
-/// Each fault puts record values in the place of a faultless member.
-type Fault = fn(&mut Record);
-
-const FAULTS: [(u64, Fault); 3] = [
-    (3, |record| record.kind = 70),
-    (4, |record| record.class = 40),
-    (5, |record| *record = Record::house(3, 60)),
-];
-
-/// The first record at fault decides, whatever is wrong behind it.
+/// The first record at fault decides, be it a house or a member, whatever is wrong in one
+/// behind it or in all.
 #[test]
 fn order_of_causes_between_records() {
     let random = &mut Random::new(110);
-    for early in 1..MOST_PLACES - 1 {
+    for early in 0..MOST_PLACES - 1 {
         for late in early + 1..MOST_PLACES {
-            for (number, first) in FAULTS {
-                for (_, second) in FAULTS {
-                    let mut records = random_records(random, MOST_PLACES, 0);
+            for houses in [0, early + 1, late + 1] {
+                let behind_member = |(number, _): &(u64, Fault)| *number != 5 || early > houses;
+                for (number, first) in FAULTS.into_iter().filter(behind_member) {
+                    let mut records = random_records(random, MOST_PLACES, houses);
                     first(&mut records[early]);
-                    second(&mut records[late]);
+                    let alone = records.clone();
+                    for (_, second) in FAULTS {
+                        records[late] = alone[late];
+                        second(&mut records[late]);
+                        expect_refused(random, &bytes_of(&records), number, early);
+                    }
+                    for record in &mut records[late..] {
+                        random.pick(&FAULTS).1(record);
+                    }
                     expect_refused(random, &bytes_of(&records), number, early);
                 }
             }
@@ -238,29 +440,83 @@ fn order_of_causes_between_records() {
     }
 }
 
-/// In one record the smallest number decides.
+/// In one record the smallest number decides, and 18 is the last: every choice of the
+/// causes that can be met together, at members and at houses.
 #[test]
 fn order_of_causes_in_one_record() {
+    const FOURS: [Fault; 3] = [
+        |record| record.class = 32,
+        |record| record.grade = 101,
+        |record| record.least = 101,
+    ];
+    const EIGHTEENS: [Fault; 4] = [
+        |record| record.weeks = 1_000,
+        |record| record.weeks = u16::MAX,
+        |record| record.machine = 0,
+        |record| (record.weeks, record.machine) = (1_000, 0),
+    ];
     let random = &mut Random::new(111);
+    for at in 0..MOST_PLACES {
+        for houses in [0, MOST_PLACES] {
+            let records = random_records(random, MOST_PLACES, houses);
+            let can_be_late = at > houses;
+            for causes in 1..16 {
+                let [three, four, five, eighteen] =
+                    [0, 1, 2, 3].map(|cause| causes >> cause & 1 == 1);
+                if five && (three || !can_be_late) {
+                    continue;
+                }
+                let number = match (three, four, five) {
+                    (true, _, _) => 3,
+                    (_, true, _) => 4,
+                    (_, _, true) => 5,
+                    _ => 18,
+                };
+                for wrong_field in FOURS {
+                    for wrong_number in EIGHTEENS {
+                        expect_fault(random, &records, at, number, |record| {
+                            if five {
+                                *record = Record::house(0, 50);
+                            }
+                            if three {
+                                record.kind = 0;
+                            }
+                            if four {
+                                wrong_field(record);
+                            }
+                            if eighteen {
+                                wrong_number(record);
+                            }
+                        });
+                    }
+                }
+            }
+        }
+    }
+}
+
+/// The narrower ranges of a house come before its being late, and that before 18.
+#[test]
+fn order_of_causes_in_a_late_house() {
+    let random = &mut Random::new(127);
     for at in 1..MOST_PLACES {
         let records = random_records(random, MOST_PLACES, 0);
-        expect_fault(random, &records, at, 3, |record| {
-            record.kind = 0;
-            record.class = 32;
-            record.grade = 101;
-            record.least = 101;
-        });
-        expect_fault(random, &records, at, 4, |record| {
-            *record = Record::house(32, 50);
-        });
-        expect_fault(random, &records, at, 4, |record| {
-            *record = Record::house(0, 50);
-            record.taken = 1 << 31;
-        });
-        expect_fault(random, &records, at, 4, |record| {
-            *record = Record::house(0, 50);
-            record.least = 1;
-        });
+        for (weeks, machine) in [(0, 1), (1_000, 1), (0, 0)] {
+            let late = Record {
+                weeks,
+                machine,
+                ..Record::house(0, 50)
+            };
+            expect_fault(random, &records, at, 5, |record| *record = late);
+            expect_fault(random, &records, at, 4, |record| {
+                *record = late;
+                record.taken = 1 << 31;
+            });
+            expect_fault(random, &records, at, 4, |record| {
+                *record = late;
+                record.least = 1;
+            });
+        }
     }
 }
 
@@ -282,7 +538,7 @@ fn length_is_tested_before_records() {
 fn arcs_at_the_edge_of_grade_and_class() {
     let random = &mut Random::new(113);
     let arcs = |giver: Record, taker: Record, random: &mut Random| {
-        let (answer, gives) = call(random, &bytes_of(&[giver, taker]));
+        let (answer, gives) = call(random, &bytes_of(&numbered([giver, taker])));
         assert_eq!(answer.number, 0);
         gives.unwrap()[0] & 2 == 2
     };
@@ -309,44 +565,23 @@ fn arcs_at_the_edge_of_grade_and_class() {
 fn a_member_may_give_to_itself_and_a_house_never_takes() {
     let random = &mut Random::new(114);
     let itself = Record::member(6, 50, 50, 1 << 6);
-    let pool = bytes_of(&[Record::house(6, 50), Record::house(6, 49), itself]);
-    let value = Pool {
-        places: 3,
-        houses: 2,
-        gives: vec![vec![2], vec![], vec![2]],
-    };
-    expect_accepted(random, &pool, &value);
+    let records = numbered([Record::house(6, 50), Record::house(6, 49), itself]);
+    let value = pool_with(3, 2, vec![vec![2], vec![], vec![2]]);
+    expect_accepted(random, &bytes_of(&records), &value);
 }
 
 #[test]
 fn rows_of_the_document() {
     let random = &mut Random::new(115);
-    let a = Pool {
-        places: 6,
-        houses: 1,
-        gives: vec![vec![1], vec![2], vec![1, 3], vec![4], vec![3, 5], vec![]],
-    };
-    expect_accepted(random, &pool_a(), &a);
-    let b = Pool {
-        places: 4,
-        houses: 0,
-        gives: vec![vec![1, 3], vec![2], vec![0, 1], vec![0]],
-    };
-    expect_accepted(random, &pool_b(), &b);
-    let empty = Pool {
-        places: 0,
-        houses: 0,
-        gives: Vec::new(),
-    };
-    expect_accepted(random, &[], &empty);
+    let gives = vec![vec![1], vec![2], vec![1, 3], vec![4], vec![3, 5], vec![]];
+    expect_accepted(random, &pool_a(), &pool_with(6, 1, gives));
+    let gives = vec![vec![1, 3], vec![2], vec![0, 1], vec![0]];
+    expect_accepted(random, &pool_b(), &pool_with(4, 0, gives));
+    expect_accepted(random, &[], &pool_with(0, 0, Vec::new()));
     for (least, arc) in [(50, vec![1]), (51, vec![])] {
-        let pool = bytes_of(&[Record::house(0, 50), Record::member(1, 50, least, 1)]);
-        let value = Pool {
-            places: 2,
-            houses: 1,
-            gives: vec![arc, vec![]],
-        };
-        expect_accepted(random, &pool, &value);
+        let records = numbered([Record::house(0, 50), Record::member(1, 50, least, 1)]);
+        let value = pool_with(2, 1, vec![arc, vec![]]);
+        expect_accepted(random, &bytes_of(&records), &value);
     }
 }
 
@@ -357,12 +592,7 @@ fn wanted_arcs_are_the_arcs_read() {
         for percent in [0, 10, 50, 90, 100] {
             let gives = random_arcs(random, places, houses, percent, percent);
             let pool = bytes_of_arcs(houses, &gives);
-            let value = Pool {
-                places,
-                houses,
-                gives,
-            };
-            expect_accepted(random, &pool, &value);
+            expect_accepted(random, &pool, &pool_with(places, houses, gives));
         }
     });
 }
@@ -396,8 +626,9 @@ fn records_with_damaged_bytes() {
 fn totally_random_bytes() {
     let random = &mut Random::new(119);
     for _ in 0..10_000 {
-        let len = random.pick(&[8, 16, 24, 56, 104, 112, 120, 9, 15]);
-        let pool = random.bytes(len);
+        let records = random.pick(&[1, 2, 3, 7, MOST_PLACES - 1, MOST_PLACES, MOST_PLACES + 1]);
+        let more = random.pick(&[0, 0, 0, 1, RECORD - 1]);
+        let pool = random.bytes(records * RECORD + more);
         compare(random, &pool);
     }
 }
@@ -411,10 +642,10 @@ fn random_fields_behind_right_kinds() {
         let mut pool = random_pool(random, places);
         for record in pool.chunks_mut(RECORD) {
             if random.chance(30) {
-                record[0] = random.pick(&[HOUSE, MEMBER]);
+                record[KIND] = random.pick(&[HOUSE, MEMBER]);
             }
             if random.chance(10) {
-                record[random.between(1, 7)] = random.byte();
+                record[random.between(KIND + 1, RECORD - 1)] = random.byte();
             }
         }
         compare(random, &pool);

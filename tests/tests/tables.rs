@@ -5,6 +5,7 @@ use swapboard_tests::baseline::tables as baseline;
 use swapboard_tests::bench_pools::{pools_of_fourteen, BenchPool};
 use swapboard_tests::calls::{fill_best, fill_exchanges, Answer};
 use swapboard_tests::large::{best_by_lowest_place, entry_by_search, exchanges_by_paths};
+use swapboard_tests::layout::MOST_PLACES;
 use swapboard_tests::lent::{Garbage, Lent};
 use swapboard_tests::oracle::exchange::Limits;
 use swapboard_tests::oracle::pool::{places_of, read, set_number, Pool};

@@ -146,7 +146,7 @@ module _ (p : Pool) (l : Limits) (lent : Lent) where
       let (to, from) = tests-accepted l (valueTests p l lent) in
       (λ t. alone-accepted p (testsOf p l lent) 0 .0 (to t .1) .0, λ h. from (p, alone-accepted p (testsOf p l lent) 0 .1 (h, refl)))
 
--- `clear`: 1 to 5 by reading, and then 7 to 10. A pool that was read meets no 6.
+-- `clear`: the causes of reading, and then 7 to 10. A pool that was read meets no 6.
 module _ (bytes : List ℕ) (l : Limits) (lent : Lent) where
   pub no-6 : byteTests bytes l lent ≡ andThen (readPool bytes) (λ p. tested (drop 1 (testsOf p l lent)) 0 (accepted p))
   unfolding clearable clearableValue

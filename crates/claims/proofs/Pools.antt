@@ -1,8 +1,8 @@
--- What pool bytes that are accepted hold: a place for each record, its kind, and the arcs, by the rules of document 01.
+-- What pool bytes that are accepted hold: a place for each record, its fields, and the arcs, by the rules of the documents.
 use mathlib.Core.List.{List, []}
 use mathlib.Core.Logic.{_↔_}
 use mathlib.Core.Path.{_≡_}
-use Prim.Native.Nat.{ℕ, _-_, _/_, _<_}
+use Prim.Native.Nat.{ℕ, _-_, _/_, _≤_, _<_}
 use lib.Dec.{T}
 use lib.ListN.{length, getD}
 use Rattle.pool.specs.declared.value.Pool.{Pool}
@@ -10,11 +10,11 @@ use Rattle.kep.specs.Lists.{keep}
 use Rattle.kep.specs.Graph.{isAltruist, isMember, WellFormed}
 use Rattle.pool.specs.Refusals.{accepted}
 use Rattle.reading.specs.Records.{readPool, GivesTo}
-use Rattle.reading.specs.Fields.{recordWidth, tellsHouse, tellsMember, poolRecords}
+use Rattle.reading.specs.Fields.{recordWidth, tellsHouse, tellsMember, weeksOf, machineOf, poolRecords}
 use Rattle.pool.specs.Value.{graphOf, poolFits}
 use Rattle.kep.specs.Plan.{FitRecords}
-use Rattle.reading.proofs.ReadPool.{read-fits, read-formed, read-arcs}
-use Rattle.reading.proofs.Houses.{read-size, read-altruists, read-members, read-members-count}
+use Rattle.reading.proofs.ReadPool.{read-size, read-passed, read-fits, read-formed, read-arcs}
+use Rattle.reading.proofs.Houses.{read-altruists, read-members, read-members-count}
 use Rattle.claims.proofs.CheckerLaws.{read-fit-records}
 
 module _ (bytes : List ℕ) {p : Pool} (read : readPool bytes ≡ accepted p) where
@@ -32,6 +32,13 @@ module _ (bytes : List ℕ) {p : Pool} (read : readPool bytes ≡ accepted p) wh
   -- Its members are as many as the records of members.
   pub members-counted : p .size - p .altruists ≡ length (keep tellsMember (poolRecords bytes))
   members-counted = read-members-count bytes read
+
+  -- Of every place the weeks waited are 0 to 999, and the machine has a number other than 0.
+  pub weeks-in-range : (u : ℕ) → u < p .size → weeksOf (getD (poolRecords bytes) u []) ≤ 999
+  weeks-in-range u there = read-passed bytes read u there .weeks
+
+  pub machines-numbered : (u : ℕ) → u < p .size → 0 < machineOf (getD (poolRecords bytes) u [])
+  machines-numbered u there = read-passed bytes read u there .machine
 
   -- The graph has an arc from u to v exactly where place u gives to place v: v is a member, takes the class of u's machine, and its grade is enough.
   pub arcs-by-rule : (u v : ℕ) → T (graphOf p .arc u v) ↔ GivesTo bytes u v

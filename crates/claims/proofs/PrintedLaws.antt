@@ -23,7 +23,7 @@ use Rattle.pool.specs.Value.{graphOf}
 use Rattle.tables.specs.Calls.{worthIn}
 use Rattle.plans.specs.Check.{recordsIn}
 use Rattle.clearing.specs.computed.Cleared.{planOf}
-use Rattle.report.specs.Text.{kindWord, lineFeed, decimal, servedLine, placesText, recordLine, recordLines, planText, outcomeText, limitsIn, printed, wholeText, textOf, TextAnswer as Reply, whole, tooShort, textOutcome, textLeft}
+use Rattle.report.specs.Text.{kindWord, lineFeed, decimal, servedLine, placesText, recordLine, recordLines, planText, outcomeText, limitsIn, printed, wholeText, counted, textOf, TextAnswer as Reply, whole, tooShort, textOutcome, textLeft}
 use Rattle.claims.specs.Printed.{limitsTests, exchangeLines, PrintsPlan, number, BaseTen}
 use Rattle.kep.proofs.Tests.{and-iff, eq→eqb}
 use Rattle.kep.proofs.Each.{each-append, each-first}
@@ -80,7 +80,7 @@ module _ (g : Graph) (lc lp : ℕ) (fit : FitRecords g lc lp) where
       (told-lines ts)
 
 module _ (pool limits : List ℕ) where
-  pub plan-printed : {p : Pool} → printed (take 128 pool) limits ≡ accepted p → PrintsPlan pool limits p
+  pub plan-printed : {p : Pool} → printed (counted pool) limits ≡ accepted p → PrintsPlan pool limits p
   unfolding wholeText outcomeText planText
   plan-printed {p} e =
       let g = graphOf p in
@@ -100,16 +100,16 @@ module _ (pool limits : List ℕ) where
         in-order = plan-in-order g lc lp ordered;
         serves = in-order-total (memberWorth g) q;
         optimum = rw same (answer-is-optimum g lc lp);
-        text = ap (λ o. outcomeText o (limitsIn limits)) e ∙ ap₂ (λ m ls. servedLine (served g (flat q)) m ++ ls) (read-members-count (take 128 pool) (known .0)) (lines q legal);
+        text = ap (λ o. outcomeText o (limitsIn limits)) e ∙ ap₂ (λ m ls. servedLine (served g (flat q)) m ++ ls) (read-members-count (counted pool) (known .0)) (lines q legal);
       }
     where
-      known : (readPool (take 128 pool) ≡ accepted p) × (length limits ≡ 2) × T (limitsFit (limitsIn limits))
-      known = printed-accepted-by (take 128 pool) limits .0 e
+      known : (readPool (counted pool) ≡ accepted p) × (length limits ≡ 2) × T (limitsFit (limitsIn limits))
+      known = printed-accepted-by (counted pool) limits .0 e
 
       lines : (q : List (List ℕ)) → T (isLegal (graphOf p) (limitsIn limits .cycle) (limitsIn limits .chain) q)
           → recordLines (recordsIn (recordForm (graphOf p) q)) ≡ exchangeLines (graphOf p) (inOrder q)
       lines q legal =
-          let fit = read-fit-records (take 128 pool) (known .0) (limitsIn limits .cycle) (limitsIn limits .chain) in
+          let fit = read-fit-records (counted pool) (known .0) (limitsIn limits .cycle) (limitsIn limits .chain) in
           ap recordLines (form-records (graphOf p) (limitsIn limits .cycle) (limitsIn limits .chain) fit q legal)
           ∙ told-lines (graphOf p) (limitsIn limits .cycle) (limitsIn limits .chain) fit (in-order-told (graphOf p) (limitsIn limits .cycle) (limitsIn limits .chain) q legal)
 

@@ -1,5 +1,5 @@
--- The program: what its text says. `textOf` is the text of the bytes of its two files, by the contract of `report`; the first 128 bytes of the pool
--- file count as the whole file.
+-- The program: what its text says. `textOf` is the text of the bytes of its two files, by the contract of `report`; of the pool file it goes by those
+-- that count as the whole file.
 use mathlib.Core.List.{List}
 use mathlib.Core.Logic.{_↔_, _⊎_}
 use mathlib.Core.Path.{_≡_, ap}
@@ -10,7 +10,7 @@ use Rattle.pool.specs.declared.value.Pool.{Pool}
 use Rattle.pool.specs.Refusals.{accepted, refused}
 use Rattle.pool.specs.Limits.{limitsFit}
 use Rattle.reading.specs.Records.{readPool}
-use Rattle.report.specs.Text.{decimal, refusedLine, outcomeText, limitsIn, printed, wholeText, textOf, whole, tooShort, textOutcome, textLeft}
+use Rattle.report.specs.Text.{decimal, refusedLine, outcomeText, limitsIn, printed, wholeText, counted, textOf, whole, tooShort, textOutcome, textLeft}
 use Rattle.claims.specs.Printed.{limitsTests, PrintsPlan, BaseTen}
 use Rattle.pool.specs.Causes.{FirstFails}
 use Rattle.claims.proofs.PrintedLaws.{printed-refused-by, printed-accepted-by, plan-printed, text-written, text-short, decimal-base-ten}
@@ -29,12 +29,12 @@ module _ (pool limits : List ℕ) where
 
 module _ (pool limits : List ℕ) where
   -- Where the pool or the limits are refused, it is `refused N P`, with the number and the spot.
-  pub prints-refusal : {n at : ℕ} → printed (take 128 pool) limits ≡ refused n at → textOf pool limits ≡ refusedLine n at
+  pub prints-refusal : {n at : ℕ} → printed (counted pool) limits ≡ refused n at → textOf pool limits ≡ refusedLine n at
   unfolding wholeText outcomeText
   prints-refusal e = ap (λ o. outcomeText o (limitsIn limits)) e
 
   -- Where they are accepted, it is that of the best plan.
-  pub prints-plan : {p : Pool} → printed (take 128 pool) limits ≡ accepted p → PrintsPlan pool limits p
+  pub prints-plan : {p : Pool} → printed (counted pool) limits ≡ accepted p → PrintsPlan pool limits p
   prints-plan e = plan-printed pool limits e
 
 -- Every number in it is in base ten.

@@ -32,7 +32,7 @@ use Rattle.reading.proofs.ReadCauses.{read-refused-by, read-accepted-by}
 use Rattle.claims.proofs.CheckerLaws.{check-refused-by, check-accepted-by}
 use Rattle.claims.proofs.ClearingLaws.{left-untouched, value-refused-by, value-accepted-by, no-6, bytes-refused-by, bytes-accepted-by}
 
--- ---- reading pool bytes: 1 and 2, and then 3 to 5 record by record. Nothing is lent to write.
+-- ---- reading pool bytes: 1 and 2, and then 3, 4, 5 and 18 record by record. Nothing is lent to write.
 
 module _ (bytes : List ℕ) where
   pub read-refuses : {n at : ℕ} → (readPool bytes ≡ refused n at) ↔ FirstMet (lengthTests bytes) (poolTests [] (poolRecords bytes)) n at
@@ -96,7 +96,7 @@ module _ (p : Pool) (l : Limits) (lent : Lent) where
   pub clear-value-accepts : ((k : ℕ) × (r : ℕ) × (clearOutcome l (valueTests p l lent) ≡ accepted (k, r))) ↔ Each Pass (testsOf p l lent)
   clear-value-accepts = value-accepted-by p l lent
 
--- `clear`: 1 to 5 by reading, and then 7 to 10. A pool that was read meets no 6.
+-- `clear`: the causes of reading, and then 7 to 10. A pool that was read meets no 6.
 module _ (bytes : List ℕ) (l : Limits) (lent : Lent) where
   pub read-meets-no-6 : byteTests bytes l lent ≡ andThen (readPool bytes) (λ p. tested (drop 1 (testsOf p l lent)) 0 (accepted p))
   read-meets-no-6 = no-6 bytes l lent
@@ -109,7 +109,7 @@ module _ (bytes : List ℕ) (l : Limits) (lent : Lent) where
       ↔ ((p : Pool) × (readPool bytes ≡ accepted p) × Each Pass (drop 1 (testsOf p l lent)))
   clear-accepts = bytes-accepted-by bytes l lent
 
--- ---- checking: 1 to 5 by reading, 7, 11, and then 12 to 17 record by record. Nothing is lent to write.
+-- ---- checking: the causes of reading, 7, 11, and then 12 to 17 record by record. Nothing is lent to write.
 
 module _ (bytes : List ℕ) (l : Limits) (plan : List ℕ) where
   pub check-refuses : {n at : ℕ} → (checkOutcome bytes l plan ≡ refused n at)

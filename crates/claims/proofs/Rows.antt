@@ -1,8 +1,9 @@
--- The rows of document 01's table, its whole output for pool A, and two refusals, computed from the definitions: one theorem.
+-- The rows of document 01's table, its whole output for pool A, and three refusals, computed from the definitions: one theorem.
 use mathlib.Core.Bool.{true, false}
 use mathlib.Core.List.{List, [], _∷_, _++_}
 use mathlib.Core.Path.{_≡_, refl}
-use Prim.Native.Nat.{ℕ}
+use Prim.Native.Nat.{ℕ, suc}
+use lib.ListN.{length, replicate}
 use Rattle.pool.specs.declared.value.Pool.{Pool}
 use Rattle.kep.specs.Lists.{all, elem, distinct, keep, upto, total, tabulate, cut, flat, before}
 use Rattle.kep.specs.computed.Answer.{sublists, plans, better, pick, answer}
@@ -10,7 +11,7 @@ use Rattle.kep.specs.Sets.{setOf, has, setWhere, worthOf}
 use Rattle.pool.specs.Refusals.{accepted, tested}
 use Rattle.pool.specs.Limits.{limitsOf}
 use Rattle.pool.specs.Value.{graphOf, emptyPool}
-use Rattle.reading.specs.Records.{fieldsFit, fieldTests, recordsTested, readPool}
+use Rattle.reading.specs.Records.{fieldsFit, weeksAndMachineFit, fieldTests, recordsTested, readPool}
 use Rattle.reading.specs.computed.Pool.{recordGives, takersOf, poolOf}
 use Rattle.kep.specs.computed.Arrangements.{concatMap, remove, arrangements}
 use Rattle.kep.specs.Exchange.{walk, lastOf, isCycle, isChain, isExchange, turnedBy, turned, headOf}
@@ -19,29 +20,35 @@ use Rattle.kep.specs.computed.Table.{exchanges, endsAt, some, entry, marks, mar
 use Rattle.kep.specs.Plan.{insert, inOrder, kindOf, recordOf, recordsOf, recordForm}
 use Rattle.plans.specs.Check.{listed, verticesOf}
 use Rattle.clearing.specs.computed.Cleared.{planOf}
-use Rattle.report.specs.Text.{kindWord, digits, decimal, servedLine, refusedLine, placeText, placesText, recordLine, recordLines, planText, outcomeText, printed, wholeText, textOf}
+use Rattle.report.specs.Text.{kindWord, digits, decimal, servedLine, refusedLine, placeText, placesText, recordLine, recordLines, planText, outcomeText, printed, wholeText, counted, textOf}
 
 -- ---- the pools
 
+-- document 01's eight bytes of a place, and document 02's four behind them: weeks 0, and place plus 1 as machine number
+unfoldable pub placed : ℕ → List ℕ → List ℕ
+placed place eight = eight ++ (0 ∷ 0 ∷ suc place ∷ 0 ∷ [])
+
 unfoldable pub poolA : List ℕ
+unfolding placed
 poolA =
-    (72 ∷ 0 ∷ 50 ∷ 0 ∷ 0 ∷ 0 ∷ 0 ∷ 0 ∷ [])
-    ++ (77 ∷ 1 ∷ 50 ∷ 40 ∷ 5 ∷ 0 ∷ 0 ∷ 0 ∷ [])
-    ++ (77 ∷ 2 ∷ 50 ∷ 40 ∷ 2 ∷ 0 ∷ 0 ∷ 0 ∷ [])
-    ++ (77 ∷ 3 ∷ 50 ∷ 40 ∷ 20 ∷ 0 ∷ 0 ∷ 0 ∷ [])
-    ++ (77 ∷ 4 ∷ 50 ∷ 40 ∷ 8 ∷ 0 ∷ 0 ∷ 0 ∷ [])
-    ++ (77 ∷ 5 ∷ 50 ∷ 40 ∷ 16 ∷ 0 ∷ 0 ∷ 0 ∷ [])
+    placed 0 (72 ∷ 0 ∷ 50 ∷ 0 ∷ 0 ∷ 0 ∷ 0 ∷ 0 ∷ [])
+    ++ placed 1 (77 ∷ 1 ∷ 50 ∷ 40 ∷ 5 ∷ 0 ∷ 0 ∷ 0 ∷ [])
+    ++ placed 2 (77 ∷ 2 ∷ 50 ∷ 40 ∷ 2 ∷ 0 ∷ 0 ∷ 0 ∷ [])
+    ++ placed 3 (77 ∷ 3 ∷ 50 ∷ 40 ∷ 20 ∷ 0 ∷ 0 ∷ 0 ∷ [])
+    ++ placed 4 (77 ∷ 4 ∷ 50 ∷ 40 ∷ 8 ∷ 0 ∷ 0 ∷ 0 ∷ [])
+    ++ placed 5 (77 ∷ 5 ∷ 50 ∷ 40 ∷ 16 ∷ 0 ∷ 0 ∷ 0 ∷ [])
 
 -- arcs 0→1, 1→2, 2→1, 2→3, 3→4, 4→3, 4→5
 unfoldable pub valueA : Pool
 valueA = record { size = 6; altruists = 1; gives = 2 ∷ 4 ∷ 10 ∷ 16 ∷ 40 ∷ 0 ∷ 0 ∷ 0 ∷ 0 ∷ 0 ∷ 0 ∷ 0 ∷ 0 ∷ 0 ∷ [] }
 
 unfoldable pub poolB : List ℕ
+unfolding placed
 poolB =
-    (77 ∷ 0 ∷ 50 ∷ 40 ∷ 12 ∷ 0 ∷ 0 ∷ 0 ∷ [])
-    ++ (77 ∷ 1 ∷ 50 ∷ 40 ∷ 5 ∷ 0 ∷ 0 ∷ 0 ∷ [])
-    ++ (77 ∷ 2 ∷ 50 ∷ 40 ∷ 2 ∷ 0 ∷ 0 ∷ 0 ∷ [])
-    ++ (77 ∷ 3 ∷ 50 ∷ 40 ∷ 1 ∷ 0 ∷ 0 ∷ 0 ∷ [])
+    placed 0 (77 ∷ 0 ∷ 50 ∷ 40 ∷ 12 ∷ 0 ∷ 0 ∷ 0 ∷ [])
+    ++ placed 1 (77 ∷ 1 ∷ 50 ∷ 40 ∷ 5 ∷ 0 ∷ 0 ∷ 0 ∷ [])
+    ++ placed 2 (77 ∷ 2 ∷ 50 ∷ 40 ∷ 2 ∷ 0 ∷ 0 ∷ 0 ∷ [])
+    ++ placed 3 (77 ∷ 3 ∷ 50 ∷ 40 ∷ 1 ∷ 0 ∷ 0 ∷ 0 ∷ [])
 
 -- arcs 0→1, 1→2, 2→0, 0→3, 3→0, 2→1
 unfoldable pub valueB : Pool
@@ -49,7 +56,8 @@ valueB = record { size = 4; altruists = 0; gives = 10 ∷ 4 ∷ 3 ∷ 1 ∷ 0 �
 
 -- a member of class 1 and grade 50 whose least grade is given, and who takes class 1
 unfoldable pub member : ℕ → List ℕ
-member least = 77 ∷ 1 ∷ 50 ∷ least ∷ 2 ∷ 0 ∷ 0 ∷ 0 ∷ []
+unfolding placed
+member least = placed 0 (77 ∷ 1 ∷ 50 ∷ least ∷ 2 ∷ 0 ∷ 0 ∷ 0 ∷ [])
 
 -- the plan of a pool value under limits, and the members that it serves: the best
 unfoldable pub plan : Pool → ℕ → ℕ → List (List ℕ)
@@ -104,7 +112,9 @@ pub rows :
     -- grade 50, least 50: arc; least 51: none
     × (recordGives (member 0) (member 50) ≡ true)
     × (recordGives (member 0) (member 51) ≡ false)
-    -- the printed text: A, 2, 2; limits that are not two bytes; a record of another kind
+    -- 192 bytes of a longer file count
+    × (length (counted (replicate 200 0)) ≡ 192)
+    -- the printed text: A, 2, 2; limits that are not two bytes; a record of another kind; weeks 1000
     × (
     textOf poolA (2 ∷ 2 ∷ [])
     -- served 4 of 5
@@ -120,11 +130,16 @@ pub rows :
     ≡ 114 ∷ 101 ∷ 102 ∷ 117 ∷ 115 ∷ 101 ∷ 100 ∷ 32 ∷ 55 ∷ 32 ∷ 48 ∷ 10 ∷ []
     )
     -- refused 3 0, whatever the limits
-    × (textOf (71 ∷ 0 ∷ 0 ∷ 0 ∷ 0 ∷ 0 ∷ 0 ∷ 0 ∷ []) [] ≡ 114 ∷ 101 ∷ 102 ∷ 117 ∷ 115 ∷ 101 ∷ 100 ∷ 32 ∷ 51 ∷ 32 ∷ 48 ∷ 10 ∷ [])
+    × (textOf (placed 0 (71 ∷ 0 ∷ 0 ∷ 0 ∷ 0 ∷ 0 ∷ 0 ∷ 0 ∷ [])) [] ≡ 114 ∷ 101 ∷ 102 ∷ 117 ∷ 115 ∷ 101 ∷ 100 ∷ 32 ∷ 51 ∷ 32 ∷ 48 ∷ 10 ∷ [])
+    -- refused 18 0
+    × (
+    textOf (72 ∷ 0 ∷ 50 ∷ 0 ∷ 0 ∷ 0 ∷ 0 ∷ 0 ∷ 232 ∷ 3 ∷ 1 ∷ 0 ∷ []) []
+    ≡ 114 ∷ 101 ∷ 102 ∷ 117 ∷ 115 ∷ 101 ∷ 100 ∷ 32 ∷ 49 ∷ 56 ∷ 32 ∷ 48 ∷ 10 ∷ []
+    )
 unfolding
-    all elem distinct keep upto total tabulate cut setOf has setWhere worthOf tested fieldsFit fieldTests recordsTested recordGives takersOf poolOf readPool
+    all elem distinct keep upto total tabulate cut setOf has setWhere worthOf tested fieldsFit weeksAndMachineFit fieldTests recordsTested recordGives takersOf poolOf readPool
     concatMap remove arrangements walk lastOf isCycle isChain isExchange turnedBy turned headOf lowestFirst exchanges endsAt some entry marks markedParts
-    greatestOf most best flat sublists before insert inOrder kindOf recordOf recordsOf recordForm plans better pick answer poolA valueA poolB valueB member plan bestServed entryOf
+    greatestOf most best flat sublists before insert inOrder kindOf recordOf recordsOf recordForm plans better pick answer placed poolA valueA poolB valueB member plan bestServed entryOf
     listed verticesOf kindWord digits decimal servedLine refusedLine placeText placesText recordLine recordLines planText outcomeText printed wholeText
 rows =
-    (refl, refl, refl, refl, refl, refl, refl, refl, refl, refl, refl, refl, refl, refl, refl, refl, refl, refl, refl, refl, refl, refl, refl, refl, refl, refl, refl, refl, refl, refl, refl, refl)
+    (refl, refl, refl, refl, refl, refl, refl, refl, refl, refl, refl, refl, refl, refl, refl, refl, refl, refl, refl, refl, refl, refl, refl, refl, refl, refl, refl, refl, refl, refl, refl, refl, refl, refl)

@@ -4,7 +4,7 @@ use mathlib.Core.List.{List, [], _∷_, _++_}
 use mathlib.Core.Path.{_≡_}
 use Prim.Native.Nat.{ℕ, _+_, _-_, _*_, _≤_}
 use lib.Dec.{T, eqb}
-use lib.ListN.{length, take}
+use lib.ListN.{length}
 use Rattle.pool.specs.declared.value.Pool.{Pool}
 use Rattle.kep.specs.Lists.{Each, keep, flat}
 use Rattle.kep.specs.Graph.{Graph}
@@ -16,7 +16,7 @@ use Rattle.pool.specs.Limits.{limitsFit}
 use Rattle.reading.specs.Records.{readPool}
 use Rattle.reading.specs.Fields.{tellsMember, poolRecords}
 use Rattle.pool.specs.Value.{graphOf}
-use Rattle.report.specs.Text.{kindWord, lineFeed, servedLine, placesText, limitsIn, textOf}
+use Rattle.report.specs.Text.{kindWord, lineFeed, servedLine, placesText, limitsIn, counted, textOf}
 
 -- the test of the limits' bytes: 7 is met also by other than two
 abbrev pub limitsTests : List ℕ → List (ℕ × Bool)
@@ -29,9 +29,9 @@ unfoldable pub exchangeLines : Graph → List (List ℕ) → List ℕ
 exchangeLines g [] = []
 exchangeLines g (xs ∷ p) = (kindWord (kindOf g xs) ++ placesText xs ++ lineFeed) ++ exchangeLines g p
 
--- The text of the pool p that the first 128 bytes of the pool file hold, under the limits that the limits' two bytes hold, is that of the best plan:
+-- The text of the pool p that the counted bytes of the pool file hold, under the limits that the limits' two bytes hold, is that of the best plan:
 pub record PrintsPlan (pool limits : List ℕ) (p : Pool) : Type 0 where
-  pub read : readPool (take 128 pool) ≡ accepted p
+  pub read : readPool (counted pool) ≡ accepted p
   pub two : length limits ≡ 2
   pub limits-fit : T (limitsFit (limitsIn limits))
   -- the exchanges of a legal plan, each ring from its lowest place on and in rising order of first place, and the members that it serves;
@@ -43,7 +43,7 @@ pub record PrintsPlan (pool limits : List ℕ) (p : Pool) : Type 0 where
   -- no legal plan serves more, and of those that serve as many none has a record form that comes first;
   pub optimum : Optimum (graphOf p) (limitsIn limits .cycle) (limitsIn limits .chain) (recordForm (graphOf p) plan) count
   -- the text is `served S of M` with this count and the number of records that tell a member, and a line for each exchange.
-  pub text : textOf pool limits ≡ servedLine count (length (keep tellsMember (poolRecords (take 128 pool)))) ++ exchangeLines (graphOf p) plan
+  pub text : textOf pool limits ≡ servedLine count (length (keep tellsMember (poolRecords (counted pool)))) ++ exchangeLines (graphOf p) plan
 
 -- ---- numbers
 

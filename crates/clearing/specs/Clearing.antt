@@ -34,6 +34,6 @@ clearTests p l exchanges best plan = lentTests p l (length exchanges) (length be
 unfoldable pub clearableValue : Pool → Limits → List ℕ → List ℕ → List ℕ → Outcome Pool
 clearableValue p l exchanges best plan = tested (clearTests p l exchanges best plan) 0 (accepted p)
 
--- of pool bytes: 1 to 5 first; 6 is met by no pool that was read
+-- of pool bytes: the causes of reading first; 6 is met by no pool that was read
 unfoldable pub clearable : List ℕ → Limits → List ℕ → List ℕ → List ℕ → Outcome Pool
 clearable bytes l exchanges best plan = andThen (readPool bytes) (λ p. clearableValue p l exchanges best plan)

@@ -19,7 +19,7 @@ pub enum Cleared {
     Refused(Refusal),
 }
 
-// Clears the pool that the bytes hold, or refuses (causes 1 to 5 and 7 to 10) and leaves all that is lent as it was.
+// Clears the pool that the bytes hold, or refuses (the causes of reading, and 7 to 10) and leaves all that is lent as it was.
 pub fn clear(
     pool: &[u8],
     limits: Limits,

@@ -20,7 +20,7 @@ module _ (pool : List ℕ) (l : Limits) (plan : List ℕ) where
   abbrev then : Pool → Outcome ℕ
   then p = tested ((7, limitsFit l) ∷ []) 0 (check (graphOf p) (l .cycle) (l .chain) plan)
 
-  -- 1 to 5
+  -- the causes of reading
   pub pool-refused : {v : Verdict} (p : Pool) {r : Refusal} → v ≡ verdict.Refused r → outcomeOf v p ≡ readPool pool
       → refused (numberOf (r .cause)) (r .at) ≡ checkOutcome pool l plan
   pool-refused p e f = ap (λ o. andThen o then) (outcome-refused p e f)

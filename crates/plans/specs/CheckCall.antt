@@ -15,6 +15,6 @@ abbrev pub checkedOutcome : Checked → Outcome ℕ
 checkedOutcome (checked.Served k) = accepted k
 checkedOutcome (checked.Refused r) = refused (numberOf (r .cause)) (r .at)
 
--- 1 to 5 by reading the pool; 7; then the plan, from 11 on
+-- the causes of reading the pool; 7; then the plan, from 11 on
 abbrev pub checkOutcome : List ℕ → Limits → List ℕ → Outcome ℕ
 checkOutcome pool l plan = andThen (readPool pool) (λ p. tested ((7, limitsFit l) ∷ []) 0 (check (graphOf p) (l .cycle) (l .chain) plan))

@@ -21,7 +21,7 @@ pub enum Checked {
     Refused(Refusal),
 }
 
-// Causes 1 to 5 by reading the pool, 7, and then 11 to 17.
+// The causes of reading the pool, 7, and then 11 to 17.
 pub fn check(pool: &[u8], limits: Limits, plan: &[u8]) -> Checked
     ensures { λ r. ⌜ checkedOutcome r ≡ checkOutcome (now (pool .entry)) limits (now (plan .entry)) ⌝ }
 {

@@ -1,4 +1,4 @@
--- The causes of document 01's table by their numbers, and what a call tells.
+-- The causes of the documents by their numbers, and what a call tells.
 use mathlib.Core.Bool.{Bool, true, false}
 use mathlib.Core.List.{List, [], _∷_}
 use Prim.Native.Nat.{ℕ}
@@ -7,7 +7,7 @@ use Rattle.pool.specs.declared.refusal.Cause.the-variants as cause
 use Rattle.pool.specs.declared.refusal.Verdict.{Verdict}
 use Rattle.pool.specs.declared.refusal.Verdict.the-variants as verdict
 
--- document 01, Causes and numbers
+-- document 01, Causes and numbers; 18: document 02, P1
 abbrev pub numberOf : Cause → ℕ
 numberOf cause.PoolLength = 1
 numberOf cause.PoolSize = 2
@@ -26,6 +26,7 @@ numberOf cause.PlanOrder = 14
 numberOf cause.ArcMissing = 15
 numberOf cause.ExchangeLength = 16
 numberOf cause.PlanEnd = 17
+numberOf cause.WeeksOrMachine = 18
 
 -- how a call ends: with what it gives back of accepted input, or with the number and the spot of the first cause met
 pub data Outcome (A : Type 0) : Type 0 where

@@ -1,4 +1,4 @@
-// The causes of document 01's table, and what a refusal tells.
+// The causes of document 01's table and of document 02's requests, and what a refusal tells.
 ghost use mathlib.Core.Path.{_≡_};
 ghost use Rattle.pool.specs.Refusals.{numberOf};
 
@@ -20,10 +20,11 @@ pub enum Cause {
     ArcMissing,
     ExchangeLength,
     PlanEnd,
+    WeeksOrMachine,
 }
 
 impl Cause {
-    // The number that document 01 gives the cause.
+    // The number that the documents give the cause.
     pub fn number(self) -> u8
         ensures { λ r. ⌜ r ≡ numberOf self ⌝ }
     {
@@ -45,6 +46,7 @@ impl Cause {
             Cause::ArcMissing => 15,
             Cause::ExchangeLength => 16,
             Cause::PlanEnd => 17,
+            Cause::WeeksOrMachine => 18,
         }
     }
 }

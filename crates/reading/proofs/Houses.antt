@@ -2,8 +2,8 @@
 use mathlib.Core.Bool.{false}
 use mathlib.Core.List.{List, [], _∷_, _++_}
 use mathlib.Core.Logic.{_↔_, _⊎_, inl, inr, ⊎-elim}
-use mathlib.Core.Path.{_≡_, refl, ap, _∙_}
-use Prim.Native.Nat.{ℕ, zero, suc, _+_, _-_, _/_, _<_}
+use mathlib.Core.Path.{_≡_, refl, ap}
+use Prim.Native.Nat.{ℕ, zero, suc, _+_, _-_, _<_}
 use native.Mathlib.Omega.{arith}
 use lib.Dec.{T, leb, ltb, eqb→eq, leb→le, le→leb, ltb→lt, lt→ltb}
 use lib.ListN.{length, getD}
@@ -13,31 +13,22 @@ use Rattle.kep.specs.Lists.{keep}
 use Rattle.kep.specs.Graph.{isAltruist, isMember}
 use Rattle.pool.specs.Refusals.{Outcome, accepted}
 use Rattle.pool.specs.Value.{graphOf}
-use Rattle.reading.specs.Records.{fieldTests, recordsTested, readPool}
+use Rattle.reading.specs.Records.{recordsTested, readPool}
 use Rattle.reading.specs.computed.Pool.{poolOf}
-use Rattle.reading.specs.Fields.{recordWidth, recordKind, tellsHouse, tellsMember, poolRecords}
-use Rattle.kep.proofs.Tests.{and-left, and-both, or-cases, is-true, from-false}
-use Rattle.kep.proofs.Each.{each-first, keep-yes, keep-no}
-use Rattle.kep.proofs.Cut.{length-cut}
-use Rattle.pool.proofs.Tested.{all-held}
+use Rattle.reading.specs.Fields.{recordKind, tellsHouse, tellsMember, poolRecords}
+use Rattle.kep.proofs.Tests.{and-left, and-both, is-true, from-false}
+use Rattle.kep.proofs.Each.{keep-yes, keep-no}
 use Rattle.reading.proofs.RecordLaws.{other-kind}
+use Rattle.reading.proofs.Passed.{first-passed}
 use Rattle.reading.proofs.Scanning.{houses}
-use Rattle.reading.proofs.ReadPool.{member-above, read-tests, read-is}
+use Rattle.reading.proofs.ReadPool.{member-above, read-tests, read-is, read-records, read-passed}
 
 module _ {A : Type 0} {a : A} (o : Outcome A) where
-  -- each record is a house's or a member's
-  record-kind : (before : List (List ℕ)) (r : List ℕ) (rs : List (List ℕ)) → recordsTested before (r ∷ rs) o ≡ accepted a
-      → (T (tellsHouse r) ⊎ T (tellsMember r)) × (recordsTested (before ++ (r ∷ [])) rs o ≡ accepted a)
-  unfolding recordsTested fieldTests
-  record-kind before r rs e =
-      let (hs, rest) = all-held (fieldTests before r) (length before) (recordsTested (before ++ (r ∷ [])) rs o) e in
-      (or-cases (tellsHouse r) (tellsMember r) (each-first hs), rest)
-
   pub house-places : (before rs : List (List ℕ)) → recordsTested before rs o ≡ accepted a → (v : ℕ) → v < length rs → (v < houses rs) ↔ T (tellsHouse (getD rs v []))
   house-places before [] e v l = absurd (omega arith)
   house-places before (r ∷ rs) e v l =
-      let (kind, rest) = record-kind before r rs e in
-      go (house-places (before ++ (r ∷ [])) rs rest) kind v l
+      let (passed, rest) = first-passed o before r rs e in
+      go (house-places (before ++ (r ∷ [])) rs rest) (passed .kind) v l
     where
       Says : List (List ℕ) → ℕ → Type 0
       Says ks v = (v < houses ks) ↔ T (tellsHouse (getD ks v []))
@@ -58,51 +49,34 @@ module _ {A : Type 0} {a : A} (o : Outcome A) where
               let none : houses rs ≡ 0 = omega (arith, member-above before (r ∷ rs) o e zero m, ap length (keep-no tellsHouse r rs no-house)) in
               absurd (omega (arith, ih v (omega arith) .1 h))
 
-  kinds : (before rs : List (List ℕ)) → recordsTested before rs o ≡ accepted a → (v : ℕ) → v < length rs
-      → T (tellsHouse (getD rs v [])) ⊎ T (tellsMember (getD rs v []))
-  kinds before [] e v l = absurd (omega arith)
-  kinds before (r ∷ rs) e zero l = record-kind before r rs e .0
-  kinds before (r ∷ rs) e (suc v) l = kinds (before ++ (r ∷ [])) rs (record-kind before r rs e .1) v (omega arith)
-
   -- so the houses and the members are all of them
   kinds-sum : (before rs : List (List ℕ)) → recordsTested before rs o ≡ accepted a → houses rs + length (keep tellsMember rs) ≡ length rs
   unfolding keep
   kinds-sum before [] e = refl
   kinds-sum before (r ∷ rs) e =
-      let (kind, rest) = record-kind before r rs e in
+      let (passed, rest) = first-passed o before r rs e in
       let others = kinds-sum (before ++ (r ∷ [])) rs rest in
       ⊎-elim
       (λ h. let member = ne-eqb (recordKind r) 77 (λ f. omega (arith, eqb→eq (recordKind r) 72 h)) in
       omega (arith, ap length (keep-yes tellsHouse r rs (is-true (tellsHouse r) h)), ap length (keep-no tellsMember r rs member)))
       (λ m. omega (arith, ap length (keep-no tellsHouse r rs (other-kind r (eqb→eq (recordKind r) 77 m))), ap length (keep-yes tellsMember r rs (is-true (tellsMember r) m))))
-      kind
+      (passed .kind)
 
 -- ---- in the graph of pool bytes that are read
 
 module _ (bytes : List ℕ) {p : Pool} (read : readPool bytes ≡ accepted p) where
-  passed : recordsTested [] (poolRecords bytes) (accepted (poolOf (poolRecords bytes))) ≡ accepted p
-  passed = read-tests bytes read .2
-
-  size-is : p .size ≡ length (poolRecords bytes)
-  unfolding poolOf
-  size-is = ap (λ q. q .size) (read-is bytes read)
-
   altruists-are : p .altruists ≡ houses (poolRecords bytes)
   unfolding poolOf
   altruists-are = ap (λ q. q .altruists) (read-is bytes read)
 
-  -- there is a vertex for each record
-  pub read-size : p .size ≡ length bytes / recordWidth
-  read-size = size-is ∙ length-cut recordWidth (length bytes / recordWidth) bytes
-
-  -- and as many members as records that tell one
+  -- there are as many members as records that tell one
   pub read-members-count : p .size - p .altruists ≡ length (keep tellsMember (poolRecords bytes))
-  read-members-count = omega (arith, size-is, altruists-are, kinds-sum (accepted (poolOf (poolRecords bytes))) [] (poolRecords bytes) passed)
+  read-members-count = omega (arith, read-records bytes read, altruists-are, kinds-sum (accepted (poolOf (poolRecords bytes))) [] (poolRecords bytes) (read-tests bytes read .2))
 
   -- it is an altruist exactly where the record tells a house, and a member where it tells a member
   module _ (u : ℕ) (there : u < p .size) where
     places : (u < houses (poolRecords bytes)) ↔ T (tellsHouse (getD (poolRecords bytes) u []))
-    places = house-places (accepted (poolOf (poolRecords bytes))) [] (poolRecords bytes) passed u (omega (arith, size-is))
+    places = house-places (accepted (poolOf (poolRecords bytes))) [] (poolRecords bytes) (read-tests bytes read .2) u (omega (arith, read-records bytes read))
 
     pub read-altruists : T (isAltruist (graphOf p) u) ↔ T (tellsHouse (getD (poolRecords bytes) u []))
     read-altruists = (
@@ -113,8 +87,8 @@ module _ (bytes : List ℕ) {p : Pool} (read : readPool bytes ≡ accepted p) wh
     pub read-members : T (isMember (graphOf p) u) ↔ T (tellsMember (getD (poolRecords bytes) u []))
     read-members = (
       λ t. ⊎-elim (λ h. absurd (omega (arith, altruists-are, places .1 h, leb→le (p .altruists) u (and-left (leb (p .altruists) u) (ltb u (p .size)) t)))) (λ m. m)
-          (kinds (accepted (poolOf (poolRecords bytes))) [] (poolRecords bytes) passed u (omega (arith, size-is))),
+          (read-passed bytes read u there .kind),
       λ m. and-both (leb (p .altruists) u) (ltb u (p .size))
-          (le→leb (p .altruists) u (omega (arith, altruists-are, member-above [] (poolRecords bytes) (accepted (poolOf (poolRecords bytes))) passed u m)))
+          (le→leb (p .altruists) u (omega (arith, altruists-are, member-above [] (poolRecords bytes) (accepted (poolOf (poolRecords bytes))) (read-tests bytes read .2) u m)))
           (lt→ltb u (p .size) there),
     )

@@ -1,4 +1,5 @@
 pub mod RecordLaws
+pub mod Passed
 pub mod Scanning
 pub mod Arcs
 pub mod ReadLaws

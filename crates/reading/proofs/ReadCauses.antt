@@ -1,4 +1,4 @@
--- By which cause reading refuses: 1 and 2 of the whole, and then 3 to 5 record after record.
+-- By which cause reading refuses: 1 and 2 of the whole, and then those of record after record.
 use mathlib.Core.List.{List, [], _∷_, _++_}
 use mathlib.Core.Logic.{_↔_}
 use mathlib.Core.Path.{_≡_, refl, ap, _∙_}

@@ -7,14 +7,14 @@ use Prim.Native.Nat.{ℕ, zero, suc, _-_, _/_, _%_, _≤_, _<_}
 use native.Mathlib.Decide.{decLt}
 use native.Mathlib.Omega.{arith}
 use lib.Dec.{T, leb, ltb, eqb→eq, leb→le, le→leb, lt→ltb, T-not}
-use lib.ListN.{length, getD, replicate}
+use lib.ListN.{length, getD, take, replicate}
 use Rattle.pool.specs.declared.value.Pool.{Pool}
 use Rattle.kep.specs.Lists.{keep}
 use Rattle.kep.specs.Sets.{has}
 use Rattle.kep.specs.Graph.{WellFormed}
 use Rattle.pool.specs.Refusals.{Outcome, accepted}
 use Rattle.pool.specs.Value.{graphOf, arcAllowed, arcsFit, takersFit, poolFits}
-use Rattle.reading.specs.Records.{lengthTests, noneOf, fieldTests, recordsTested, readPool, GivesTo}
+use Rattle.reading.specs.Records.{lengthTests, noneOf, recordsTested, readPool, GivesTo}
 use Rattle.reading.specs.computed.Pool.{recordGives, takersOf, poolOf}
 use Rattle.reading.specs.Fields.{recordWidth, mostRecords, classOf, gradeOf, leastOf, takenOf, tellsHouse, tellsMember, poolRecords}
 use Rattle.kep.proofs.Tests.{is-false, and-left, and-right, and-iff₃, implies-iff}
@@ -27,18 +27,11 @@ use Rattle.pool.proofs.ValueLaws.{fits-iff, fits-formed, arc-iff}
 use Rattle.kep.proofs.Cut.{length-cut}
 use Rattle.pool.proofs.Tested.{all-held}
 use Rattle.reading.proofs.RecordLaws.{other-kind, none-more}
+use Rattle.reading.proofs.Passed.{Passes, first-passed, each-passed}
 use Rattle.reading.proofs.Scanning.{houses}
 use Rattle.reading.proofs.ReadLaws.{records-accepted}
 
 -- ---- houses come first
-
--- what passing says of the first record and of the rest
-record-passed : {A : Type 0} {a : A} (before : List (List ℕ)) (r : List ℕ) (rs : List (List ℕ)) (o : Outcome A) → recordsTested before (r ∷ rs) o ≡ accepted a
-    → (T (tellsHouse r) → T (noneOf tellsMember before)) × (recordsTested (before ++ (r ∷ [])) rs o ≡ accepted a)
-unfolding recordsTested fieldTests
-record-passed before r rs o e =
-    let (hs, rest) = all-held (fieldTests before r) (length before) (recordsTested (before ++ (r ∷ [])) rs o) e in
-    (implies-iff (tellsHouse r) (noneOf tellsMember before) .0 (each-first (each-rest (each-rest hs))), rest)
 
 -- no house comes after a member
 none-later : {A : Type 0} {a : A} (before rs : List (List ℕ)) (o : Outcome A) → (T (noneOf tellsMember before) → ⊥) → recordsTested before rs o ≡ accepted a
@@ -46,8 +39,8 @@ none-later : {A : Type 0} {a : A} (before rs : List (List ℕ)) (o : Outcome A) 
 unfolding keep
 none-later before [] o n e = refl
 none-later before (r ∷ rs) o n e =
-    let (late, rest) = record-passed before r rs o e in
-    ap length (keep-no tellsHouse r rs (is-false (tellsHouse r) (λ t. n (late t))))
+    let (passed, rest) = first-passed o before r rs e in
+    ap length (keep-no tellsHouse r rs (is-false (tellsHouse r) (λ t. n (passed .in-turn t))))
     ∙ none-later (before ++ (r ∷ [])) rs o (λ t. n (and-left (noneOf tellsMember before) (not (tellsMember r)) (rw (none-more tellsMember r before) at t))) rest
 
 -- so a member's place is not below the number of houses
@@ -56,12 +49,12 @@ pub member-above : {A : Type 0} {a : A} (before rs : List (List ℕ)) (o : Outco
 unfolding keep
 member-above before [] o e v t = omega arith
 member-above before (r ∷ rs) o e zero t =
-    let (late, rest) = record-passed before r rs o e in
+    let (passed, rest) = first-passed o before r rs e in
     let met : T (noneOf tellsMember (before ++ (r ∷ []))) → ⊥ =
     λ n. T-not (tellsMember r) (and-right (noneOf tellsMember before) (not (tellsMember r)) (rw (none-more tellsMember r before) at n)) t in
     omega (arith, ap length (keep-no tellsHouse r rs (other-kind r (eqb→eq _ _ t))) ∙ none-later (before ++ (r ∷ [])) rs o met rest)
 member-above before (r ∷ rs) o e (suc v) t =
-    omega (arith, keep-one tellsHouse r rs, member-above (before ++ (r ∷ [])) rs o (record-passed before r rs o e .1) v t)
+    omega (arith, keep-one tellsHouse r rs, member-above (before ++ (r ∷ [])) rs o (first-passed o before r rs e .1) v t)
 
 -- what it is for one record to give to another
 pub gives-iff : (giver taker : List ℕ)
@@ -128,6 +121,18 @@ module _ (bytes : List ℕ) {p : Pool} (read : readPool bytes ≡ accepted p) wh
 
   pub read-few : length (poolRecords bytes) ≤ mostRecords
   read-few = rw (length-cut recordWidth (length bytes / recordWidth) bytes) (read-tests .1)
+
+  -- it has a place for each record
+  pub read-records : p .size ≡ length (poolRecords bytes)
+  unfolding poolOf
+  read-records = ap (λ q. q .size) read-is
+
+  pub read-size : p .size ≡ length bytes / recordWidth
+  read-size = read-records ∙ length-cut recordWidth (length bytes / recordWidth) bytes
+
+  -- and no record meets a cause
+  pub read-passed : (u : ℕ) → u < p .size → Passes (take u (poolRecords bytes)) (getD (poolRecords bytes) u [])
+  read-passed u there = each-passed (accepted (poolOf (poolRecords bytes))) [] (poolRecords bytes) (read-tests .2) u (omega (arith, read-records))
 
   -- an accepted pool passes the test of a pool value, and its graph is well formed
   pub read-fits : T (poolFits p)

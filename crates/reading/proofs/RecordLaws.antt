@@ -10,7 +10,7 @@ use lib.ListN.{length}
 use borrow.Author.Tests.{eq-eqb, ne-eqb}
 use Rattle.kep.specs.Lists.{keep, none, also}
 use Rattle.pool.specs.Refusals.{Outcome, accepted, refused, tested}
-use Rattle.reading.specs.Records.{fieldsFit, noneOf, fieldTests}
+use Rattle.reading.specs.Records.{fieldsFit, weeksAndMachineFit, noneOf, fieldTests}
 use Rattle.reading.specs.Fields.{recordKind, tellsHouse, tellsMember}
 use Rattle.kep.proofs.Tests.{passes?, implies-iff, or-cases, and-left, and-right, and-both, from-false}
 use Rattle.kep.proofs.Each.{keep-yes, keep-no, keep-more}
@@ -81,11 +81,19 @@ module _ (before : List (List ℕ)) (r : List ℕ) where
           (first-fails (length before) (accepted (tellsMember r)) (_ ∷ _ ∷ []) 5 _ _ (also known (also fits none))
           (λ t. T-not (noneOf tellsMember before) (rw met at (and-right house after (rw both at l))) (order .0 t (and-left house after (rw both at l)))))
 
-      pub record-read : (T late → ⊥) → {member : Bool} → member ≡ not house → accepted member ≡ here
-      unfolding fieldTests
-      record-read f e =
-          ap (λ b. accepted b) (e ∙ kind .is-member)
-          ∙ sym (all-pass (length before) (accepted (tellsMember r)) (also known (also fits (also (order .1 before-any) none))))
-        where
-          before-any : T house → T (noneOf tellsMember before)
-          before-any h = ⊎-elim (λ t. t) (λ n. absurd (f (rw both (and-both house after h (rw met (not-T (noneOf tellsMember before) n)))))) (passes? (noneOf tellsMember before))
+      module _ (in-turn : T late → ⊥) where
+        turn : T (not (tellsHouse r) || noneOf tellsMember before)
+        turn = order .1 before-any
+          where
+            before-any : T house → T (noneOf tellsMember before)
+            before-any h = ⊎-elim (λ t. t) (λ n. absurd (in-turn (rw both (and-both house after h (rw met (not-T (noneOf tellsMember before) n)))))) (passes? (noneOf tellsMember before))
+
+        pub weeks-or-machine-out : (T (weeksAndMachineFit r) → ⊥) → refused 18 (length before) ≡ here
+        unfolding fieldTests
+        weeks-or-machine-out n = sym (first-fails (length before) (accepted (tellsMember r)) (_ ∷ _ ∷ _ ∷ []) 18 _ _ (also known (also fits (also turn none))) n)
+
+        pub record-read : T (weeksAndMachineFit r) → {member : Bool} → member ≡ not house → accepted member ≡ here
+        unfolding fieldTests
+        record-read w e =
+            ap (λ b. accepted b) (e ∙ kind .is-member)
+            ∙ sym (all-pass (length before) (accepted (tellsMember r)) (also known (also fits (also turn (also w none)))))

@@ -9,7 +9,7 @@ use native.Mathlib.Omega.{arith}
 use lib.ListN.{length, getD, take, drop, drop-of-length-le}
 use lib.Seq.{take-suc, drop-cons, take-all, length-take-le}
 use borrow.Author.Tests.{eqb-true}
-use Rattle.reading.specs.declared.records.PoolRecord.{PoolRecord}
+use Rattle.reading.specs.declared.records.RecordRead.{RecordRead}
 use Rattle.kep.specs.Lists.{keep}
 use Rattle.pool.specs.Refusals.{Outcome, accepted, refused, tested}
 use Rattle.reading.specs.Records.{noneOf, fieldTests, recordsTested}
@@ -69,7 +69,7 @@ module _ (bytes : List ℕ) where
     more = take-suc (poolRecords bytes) i [] there
 
     -- as code learns the outcome of record i
-    pub read-here : {e : PoolRecord} (known : PoolRecord) → e ≡ known
+    pub read-here : {e : RecordRead} (known : RecordRead) → e ≡ known
         → ((b : List (List ℕ)) → afterMember ≡ not (noneOf tellsMember b)
         → recordOutcome e (length b) ≡ here b (take (recordWidth * i + recordWidth - recordWidth * i) (drop (recordWidth * i) bytes)))
         → recordOutcome known (length before) ≡ here before r

@@ -8,7 +8,7 @@ use Rattle.kep.specs.Lists.{cut}
 
 -- how many bytes a record has
 abbrev pub recordWidth : ℕ
-recordWidth = 8
+recordWidth = 12
 
 -- how many records a pool has at most
 abbrev pub mostRecords : ℕ
@@ -49,3 +49,11 @@ pairAt r at = getD r at 0 + 256 * getD r (at + 1) 0
 -- the classes taken, as a set
 abbrev pub takenOf : List ℕ → ℕ
 takenOf r = pairAt r 4 + 65536 * pairAt r 6
+
+-- the weeks waited
+abbrev pub weeksOf : List ℕ → ℕ
+weeksOf r = pairAt r 8
+
+-- the machine's number
+abbrev pub machineOf : List ℕ → ℕ
+machineOf r = pairAt r 10

@@ -1,4 +1,4 @@
--- Reading pool bytes: the causes 1 to 5, and the rule of arcs.
+-- Reading pool bytes: the causes 1 to 5 and 18, and the rule of arcs.
 use mathlib.Core.Bool.{Bool, not, _&&_, _||_}
 use mathlib.Core.List.{List, [], _∷_, _++_}
 use Prim.Native.Nat.{ℕ, _/_, _%_, _≤_, _<_}
@@ -9,7 +9,7 @@ use Rattle.kep.specs.Lists.{keep}
 use Rattle.kep.specs.Sets.{has}
 use Rattle.pool.specs.Refusals.{Outcome, accepted, refused, tested}
 use Rattle.pool.specs.Value.{emptyPool}
-use Rattle.reading.specs.Fields.{recordWidth, mostRecords, poolRecords, tellsHouse, tellsMember, classOf, gradeOf, leastOf, takenOf}
+use Rattle.reading.specs.Fields.{recordWidth, mostRecords, poolRecords, tellsHouse, tellsMember, classOf, gradeOf, leastOf, takenOf, weeksOf, machineOf}
 use Rattle.reading.specs.computed.Pool.{poolOf}
 
 -- ---- the causes of a record
@@ -22,15 +22,23 @@ fieldsFit r =
     && leb (leastOf r) 100
     && (not (tellsHouse r) || eqb (leastOf r) 0 && eqb (takenOf r) 0)
 
+-- weeks 0 to 999, machine numbers from 1 on
+unfoldable pub weeksAndMachineFit : List ℕ → Bool
+weeksAndMachineFit r = leb (weeksOf r) 999 && not (eqb (machineOf r) 0)
+
 -- no record among them is such
 abbrev pub noneOf : (List ℕ → Bool) → List (List ℕ) → Bool
 noneOf p rs = eqb (length (keep p rs)) 0
 
 -- the tests of a record behind the records before it, in the order of their numbers
--- 3: kind neither 72 nor 77; 4: another field outside its range; 5: house after a member
+-- 3: kind neither 72 nor 77; 4: class, a grade or classes taken outside their range; 5: house after a member; 18: weeks or machine number outside theirs
 unfoldable pub fieldTests : List (List ℕ) → List ℕ → List (ℕ × Bool)
 fieldTests before r =
-    (3, tellsHouse r || tellsMember r) ∷ (4, fieldsFit r) ∷ (5, not (tellsHouse r) || noneOf tellsMember before) ∷ []
+    (3, tellsHouse r || tellsMember r)
+    ∷ (4, fieldsFit r)
+    ∷ (5, not (tellsHouse r) || noneOf tellsMember before)
+    ∷ (18, weeksAndMachineFit r)
+    ∷ []
 
 -- record by record behind those before: `rest` where no record meets a cause
 unfoldable pub recordsTested : {A : Type 0} → List (List ℕ) → List (List ℕ) → Outcome A → Outcome A
@@ -45,7 +53,7 @@ poolTests before (r ∷ rs) = fieldTests before r ∷ poolTests (before ++ (r �
 
 -- ---- reading
 
--- 1: pool length no multiple of 8; 2: more than 14 records
+-- 1: pool length no multiple of 12; 2: more than 14 records
 abbrev pub lengthTests : List ℕ → List (ℕ × Bool)
 lengthTests bytes = (1, eqb (length bytes % recordWidth) 0) ∷ (2, leb (length bytes / recordWidth) mostRecords) ∷ []
 

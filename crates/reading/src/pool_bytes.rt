@@ -1,5 +1,5 @@
-// Reading pool bytes to a pool value: causes 1 to 5.
-use crate::records::PoolRecord;
+// Reading pool bytes to a pool value: causes 1 to 5 and 18.
+use crate::fields::PoolRecord;
 use crate::records::Scan;
 use crate::records::scan_records;
 use crate::takers::takers;

@@ -1,38 +1,25 @@
-// The records of a pool, tested one by one: causes 3 to 5.
+// The records of a pool, tested one by one: causes 3 to 5 and 18.
+use crate::fields::PoolRecord;
+use crate::fields::machine;
+use crate::fields::taken;
+use crate::fields::weeks;
 use pool::Cause;
 ghost use mathlib.Core.Path.{_≡_};
 ghost use mathlib.Core.Bool.{not};
 ghost use mathlib.Core.List.{List, []};
-ghost use Prim.Native.Nat.{ℕ, _+_, _/_, _≤_, _<_};
+ghost use Prim.Native.Nat.{ℕ, _/_, _≤_};
 ghost use lib.ListN.{length};
 ghost use Rattle.kep.specs.Lists.{keep};
 ghost use Rattle.pool.specs.Refusals.{accepted, tested};
-ghost use Rattle.reading.specs.Records.{fieldsFit, fieldTests, noneOf, recordsTested};
-ghost use Rattle.reading.specs.Fields.{recordWidth, mostRecords, pairAt, takenOf, tellsHouse, tellsMember, poolRecords};
+ghost use Rattle.reading.specs.Records.{fieldsFit, weeksAndMachineFit, fieldTests, noneOf, recordsTested};
+ghost use Rattle.reading.specs.Fields.{recordWidth, mostRecords, tellsHouse, tellsMember, poolRecords};
 ghost use Rattle.reading.specs.inner.Reading.{recordOutcome, scanOutcome};
 
-// What a record is, or the cause that it meets.
-pub(crate) enum PoolRecord {
+// Whose a record is, or the cause that it meets.
+pub(crate) enum RecordRead {
     House,
     Member,
     Fault(Cause),
-}
-
-// A record's width, how many a pool has at most, and the first byte of each field.
-impl PoolRecord {
-    pub(crate) const WIDTH: usize = 8;
-
-    pub(crate) const MOST: usize = 14;
-
-    pub(crate) const KIND: usize = 0;
-
-    pub(crate) const CLASS: usize = 1;
-
-    pub(crate) const GRADE: usize = 2;
-
-    pub(crate) const LEAST: usize = 3;
-
-    pub(crate) const TAKEN: usize = 4;
 }
 
 // The number of houses, or the first refusal.
@@ -54,13 +41,13 @@ pub(crate) fn scan_records(bytes: &[u8]) -> Scan
         let at = PoolRecord::WIDTH * i;
         let record = read_record(&bytes[at..at + PoolRecord::WIDTH], after_member);
         match record {
-            PoolRecord::House => {
+            RecordRead::House => {
                 houses += 1;
             }
-            PoolRecord::Member => {
+            RecordRead::Member => {
                 after_member = true;
             }
-            PoolRecord::Fault(cause) => {
+            RecordRead::Fault(cause) => {
                 return Scan::Refused(cause, i);
             }
         }
@@ -70,7 +57,7 @@ pub(crate) fn scan_records(bytes: &[u8]) -> Scan
 }
 
 // One record: its tests in the order of their numbers. Of the records before it 5 asks whether a member is among them.
-fn read_record(bytes: &[u8], after_member: bool) -> PoolRecord
+fn read_record(bytes: &[u8], after_member: bool) -> RecordRead
     requires { ⌜ length (now bytes) ≡ recordWidth ⌝ }
     ensures { λ r. ⌜ ((before : List (List ℕ)) → «after_member» ≡ not (noneOf tellsMember before) → recordOutcome r (length before) ≡ tested (fieldTests before (now (bytes .entry))) (length before) (accepted (tellsMember (now (bytes .entry))))) ⌝ }
 {
@@ -79,25 +66,29 @@ fn read_record(bytes: &[u8], after_member: bool) -> PoolRecord
         72 => true,
         77 => false,
         _ => {
-            return PoolRecord::Fault(Cause::RecordKind);
+            return RecordRead::Fault(Cause::RecordKind);
         }
     };
     let unfit = !fields_fit(bytes);
     let late = house && after_member;
+    let weeks_or_machine_unfit = !weeks_and_machine_fit(bytes);
     if unfit {
-        return PoolRecord::Fault(Cause::RecordField);
+        return RecordRead::Fault(Cause::RecordField);
     }
     if late {
-        return PoolRecord::Fault(Cause::AltruistAfterMember);
+        return RecordRead::Fault(Cause::AltruistAfterMember);
+    }
+    if weeks_or_machine_unfit {
+        return RecordRead::Fault(Cause::WeeksOrMachine);
     }
     if house {
-        PoolRecord::House
+        RecordRead::House
     } else {
-        PoolRecord::Member
+        RecordRead::Member
     }
 }
 
-// Is every field but the kind in its range?
+// Is every field that 4 tests in its range?
 fn fields_fit(bytes: &[u8]) -> bool
     requires { ⌜ length (now bytes) ≡ recordWidth ⌝ }
     ensures { λ r. ⌜ r ≡ fieldsFit (now (bytes .entry)) ⌝ }
@@ -124,27 +115,13 @@ fn fields_fit(bytes: &[u8]) -> bool
     }
 }
 
-// The classes taken, as a set.
-pub(crate) fn taken(bytes: &[u8]) -> u32
+// Is the time waited, and the machine's number, in its range?
+fn weeks_and_machine_fit(bytes: &[u8]) -> bool
     requires { ⌜ length (now bytes) ≡ recordWidth ⌝ }
-    ensures { λ r. ⌜ r ≡ takenOf (now (bytes .entry)) ⌝ }
+    ensures { λ r. ⌜ r ≡ weeksAndMachineFit (now (bytes .entry)) ⌝ }
 {
-    let low = pair(bytes, PoolRecord::TAKEN);
-    let high = pair(bytes, PoolRecord::TAKEN + 2);
-    (low as u32) + 65536 * (high as u32)
-}
-
-// The number in two bytes, the low one first.
-fn pair(bytes: &[u8], at: usize) -> u16
-    requires { ⌜ at + 1 < length (now bytes) ⌝ }
-    ensures { λ r. ⌜ r ≡ pairAt (now (bytes .entry)) at ⌝ }
-{
-    wide(bytes[at]) + 256 * wide(bytes[at + 1])
-}
-
-// A byte in a wider number, with its bound.
-fn wide(byte: u8) -> u16
-    ensures { λ r. ⌜ (r ≡ byte) × (r < 256) ⌝ }
-{
-    byte as u16
+    if 999 < weeks(bytes) {
+        return false;
+    }
+    machine(bytes) != 0
 }

@@ -1,6 +1,6 @@
 // The arcs of a pool: for each place the set of the places that it gives to.
-use crate::records::PoolRecord;
-use crate::records::taken;
+use crate::fields::PoolRecord;
+use crate::fields::taken;
 use sets::VertexSet;
 ghost use mathlib.Core.Path.{_≡_};
 ghost use mathlib.Core.List.{_++_};

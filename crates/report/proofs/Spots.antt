@@ -1,4 +1,4 @@
--- The spot of a refused pool is below 15, since more than 14 records are refused before any record is read.
+-- The spot of a refused pool is no more than the most records, since more of them are refused before any record is read.
 use mathlib.Core.Bool.{Bool, true, false}
 use mathlib.Core.List.{List, [], _∷_, _++_}
 use mathlib.Core.Path.{_≡_, sym}
@@ -38,13 +38,13 @@ records-spots most before (r ∷ rs) o h s =
     (records-spots most (before ++ (r ∷ [])) rs o (simp length-append (omega arith)) s)
 
 -- the first two tests: the second bounds the number of records
-two-spots : {A : Type 0} (a b : Bool) (o : Outcome A) → (T b → Spots 14 o) → Spots 14 (tested ((1, a) ∷ (2, b) ∷ []) 0 o)
+two-spots : {A : Type 0} (a b : Bool) (o : Outcome A) → (T b → Spots mostRecords o) → Spots mostRecords (tested ((1, a) ∷ (2, b) ∷ []) 0 o)
 unfolding tested
 two-spots true true o s = s tt
 two-spots true false o s = λ n i e. omega (arith, same-spot e)
 two-spots false b o s = λ n i e. omega (arith, same-spot e)
 
-pub read-spot : (bytes : List ℕ) {n at : ℕ} → refused n at ≡ readPool bytes → at ≤ 14
+pub read-spot : (bytes : List ℕ) {n at : ℕ} → refused n at ≡ readPool bytes → at ≤ mostRecords
 unfolding readPool
 read-spot bytes {n} {at} e =
     two-spots (eqb (length bytes % recordWidth) 0) (leb (length bytes / recordWidth) mostRecords)
@@ -52,5 +52,5 @@ read-spot bytes {n} {at} e =
     (λ t. records-spots mostRecords [] (poolRecords bytes) (accepted (poolOf (poolRecords bytes))) (few t) (λ n at f. absurd (not-both f)))
     n at (sym e)
   where
-    few : T (leb (length bytes / recordWidth) mostRecords) → 0 + length (poolRecords bytes) ≤ 14
+    few : T (leb (length bytes / recordWidth) mostRecords) → 0 + length (poolRecords bytes) ≤ mostRecords
     few t = omega (arith, leb→le (length bytes / recordWidth) mostRecords t, length-cut recordWidth (length bytes / recordWidth) bytes)

@@ -1,12 +1,13 @@
 -- The text that the workshop program prints (document 01, Pool A and its answers), from the bytes of its two files.
 use mathlib.Core.Bool.{true, false, _&&_}
 use mathlib.Core.List.{List, [], _∷_, _++_}
-use Prim.Native.Nat.{ℕ, zero, suc, _+_, _-_, _/_, _%_}
+use Prim.Native.Nat.{ℕ, zero, suc, _+_, _-_, _*_, _/_, _%_}
 use lib.Dec.{eqb, ltb, leb}
 use lib.ListN.{length, take, drop, getD}
 use Rattle.pool.specs.declared.value.Pool.{Pool}
 use Rattle.pool.specs.declared.limits.Limits.{Limits}
 use Rattle.pool.specs.Limits.{limitsOf, limitsFit}
+use Rattle.reading.specs.Fields.{recordWidth, mostRecords}
 use Rattle.reading.specs.Records.{readPool}
 use Rattle.pool.specs.Refusals.{Outcome, accepted, refused, tested, andThen}
 use Rattle.pool.specs.Value.{graphOf}
@@ -57,11 +58,11 @@ decimal n = digits (suc n) n
 
 -- `served S of M`
 unfoldable pub servedLine : ℕ → ℕ → List ℕ
-servedLine s m = servedWord ++ decimal s ++ ofWord ++ decimal m ++ lineFeed
+servedLine s m = (servedWord ++ decimal s) ++ (ofWord ++ decimal m) ++ lineFeed
 
 -- `refused N P`
 unfoldable pub refusedLine : ℕ → ℕ → List ℕ
-refusedLine number at = refusedWord ++ decimal number ++ space ++ decimal at ++ lineFeed
+refusedLine number at = (refusedWord ++ decimal number) ++ (space ++ decimal at) ++ lineFeed
 
 -- places in order, each after one space
 unfoldable pub placeText : ℕ → List ℕ
@@ -106,9 +107,13 @@ printed pool limits = andThen (readPool pool) (λ p. tested ((7, eqb (length lim
 unfoldable pub wholeText : List ℕ → List ℕ → List ℕ
 wholeText pool limits = outcomeText (printed pool limits) (limitsIn limits)
 
--- of any pool file: its first 128 bytes count as the whole file
+-- what counts of a pool file as the whole file: its first 192 bytes, two records more than a pool has at most
+abbrev pub counted : List ℕ → List ℕ
+counted pool = take (recordWidth * (mostRecords + 2)) pool
+
+-- of any pool file
 abbrev pub textOf : List ℕ → List ℕ → List ℕ
-textOf pool limits = wholeText (take 128 pool) limits
+textOf pool limits = wholeText (counted pool) limits
 
 -- ---- what the call tells and leaves
 

@@ -4,5 +4,6 @@ mod numbers;
 mod reporting;
 mod writing;
 
+pub use reporting::COUNTED;
 pub use reporting::Reported;
 pub use reporting::report;

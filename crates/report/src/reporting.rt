@@ -10,6 +10,7 @@ use pool::Limits;
 use pool::Pool;
 use pool::Refusal;
 use pool::Verdict;
+use reading::PoolRecord;
 use reading::read_pool;
 ghost use mathlib.Core.Path.{_≡_};
 ghost use Prim.Native.Nat.{_≤_};
@@ -26,16 +27,18 @@ pub enum Reported {
     TooShort,
 }
 
-// Writes the whole text to the front of the buffer, if there is room for all of it; 1024 bytes always are enough. The first 128 bytes of
-// the pool file count as the whole file.
+// How many bytes of the pool file count as the whole file: two records more than a pool has at most.
+pub const COUNTED: usize = PoolRecord::WIDTH * (PoolRecord::MOST + 2);
+
+// Writes the whole text to the front of the buffer, if there is room for all of it; 1024 bytes always are enough.
 pub fn report(pool: &[u8], limits: &[u8], out: &mut [u8]) -> Reported
     ensures length { λ r. ⌜ reportedOf r ≡ textOutcome (now (pool .entry)) (now (limits .entry)) (length (now (out .entry))) ⌝ }
     ensures text { λ _. ⌜ now (out .exit) ≡ textLeft (now (pool .entry)) (now (limits .entry)) (now (out .entry)) ⌝ }
     ensures short { λ _. ⌜ length (textOf (now (pool .entry)) (now (limits .entry))) ≤ 1024 ⌝ }
 {
     let mut end = pool.len();
-    if 128 < end {
-        end = 128;
+    if COUNTED < end {
+        end = COUNTED;
     }
     let mut text = [0u8; 1024];
     let length = compose(&pool[..end], limits, &mut text);

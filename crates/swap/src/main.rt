@@ -5,10 +5,11 @@ mod files;
 use files::load;
 use files::write_whole;
 use libc::STDOUT_FILENO;
+use report::COUNTED;
 use report::Reported;
 
 fn main() {
-    let mut pool = [0u8; 128];
+    let mut pool = [0u8; COUNTED];
     let pool_file = load(b"pool.bin", &mut pool);
     if !pool_file.whole {
         os::fail(b"swap: pool.bin");

@@ -2,7 +2,8 @@
 
 use super::plan::{CHAIN, PLAN_RECORD, RING};
 use super::pool::{read_pool, test_limits};
-use crate::pools::{PoolValue, MOST_PLACES};
+use crate::layout::MOST_PLACES;
+use crate::pools::PoolValue;
 use crate::refusal::{refuse, Refusal};
 
 const NO_PLACE: u8 = 255;

@@ -3,7 +3,7 @@
 use super::plan::{write_plan, Filled, Scratch, PLAN_RECORD};
 use super::pool::{read_pool, test_limits};
 use super::tables::{entries_needed, fill_best, fill_exchanges};
-use crate::pools::MOST_PLACES;
+use crate::layout::MOST_PLACES;
 use crate::refusal::{refuse, Refusal};
 
 /// What clearing keeps beside the tables, lent so that no call has to make it.

@@ -2,7 +2,8 @@
 
 use super::pool::givers_of;
 use super::tables::MARK;
-use crate::pools::{PoolValue, MOST_PLACES};
+use crate::layout::MOST_PLACES;
+use crate::pools::PoolValue;
 
 pub const PLAN_RECORD: usize = 16;
 pub const RING: u8 = 82;

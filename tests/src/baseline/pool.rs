@@ -1,6 +1,7 @@
 //! Reading pool bytes and testing pool values.
 
-use crate::pools::{PoolValue, HOUSE, MEMBER, MOST_PLACES, RECORD};
+use crate::layout::*;
+use crate::pools::PoolValue;
 use crate::refusal::{refuse, Refusal};
 
 pub fn read_pool(bytes: &[u8]) -> Result<PoolValue, Refusal> {
@@ -28,20 +29,21 @@ pub fn read_pool(bytes: &[u8]) -> Result<PoolValue, Refusal> {
 
 /// Returns how many houses the record is: 1 or 0.
 fn test_record(record: &[u8], at: usize, houses: usize) -> Result<usize, Refusal> {
-    let [kind, class, grade, least, ..] = *record else {
-        return refuse(1, 0);
-    };
-    let house = match kind {
+    let house = match record[KIND] {
         HOUSE => true,
         MEMBER => false,
         _ => return refuse(3, at),
     };
+    let least = record[LEAST_GRADE];
     let takes = least != 0 || classes_taken(record) != 0;
-    if class > 31 || grade > 100 || least > 100 || house && takes {
+    if record[CLASS] > 31 || record[GRADE] > 100 || least > 100 || house && takes {
         return refuse(4, at);
     }
     if house && houses < at {
         return refuse(5, at);
+    }
+    if two_bytes(record, WEEKS) > GREATEST_WEEKS || two_bytes(record, MACHINE_NUMBER) == 0 {
+        return refuse(18, at);
     }
     Ok(usize::from(house))
 }
@@ -49,14 +51,19 @@ fn test_record(record: &[u8], at: usize, houses: usize) -> Result<usize, Refusal
 fn takers_of(giver: &[u8], bytes: &[u8], houses: usize) -> u16 {
     let mut takers = 0;
     for (place, taker) in bytes.chunks_exact(RECORD).enumerate().skip(houses) {
-        let takes = classes_taken(taker) >> giver[1] & 1 == 1 && giver[2] >= taker[3];
+        let taken = classes_taken(taker) >> giver[CLASS] & 1 == 1;
+        let takes = taken && giver[GRADE] >= taker[LEAST_GRADE];
         takers |= u16::from(takes) << place;
     }
     takers
 }
 
 fn classes_taken(record: &[u8]) -> u32 {
-    u32::from_le_bytes([record[4], record[5], record[6], record[7]])
+    u32::from_le_bytes([0, 1, 2, 3].map(|byte| record[CLASSES_TAKEN + byte]))
+}
+
+fn two_bytes(record: &[u8], at: usize) -> u16 {
+    u16::from_le_bytes([record[at], record[at + 1]])
 }
 
 pub fn test_value(pool: &PoolValue) -> Result<(), Refusal> {

@@ -2,7 +2,8 @@
 //! the exchange table takes 1.13 times as long, the best table 1.33 times.
 
 use super::pool::{givers_of, test_limits, test_value};
-use crate::pools::{PoolValue, MOST_PLACES};
+use crate::layout::MOST_PLACES;
+use crate::pools::PoolValue;
 use crate::refusal::{refuse, Refusal};
 
 /// A marked set is worth this and its members, any other 0: so a sum of a worth and

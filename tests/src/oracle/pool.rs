@@ -1,5 +1,6 @@
 //! Pool records and arcs, read as the tables of fields and causes say them.
 
+use crate::layout::*;
 use crate::pools::PoolValue;
 use crate::refusal::{refuse, Refusal};
 
@@ -32,7 +33,7 @@ impl Pool {
 
     /// The lists as the C interface tells them.
     pub fn value(&self) -> PoolValue {
-        let mut gives = [0; 14];
+        let mut gives = [0; MOST_PLACES];
         for (set, takers) in gives.iter_mut().zip(&self.gives) {
             *set = set_number(takers) as u16;
         }
@@ -52,7 +53,7 @@ impl Pool {
         let there = |place: usize| place < places;
         let astray = |giver: usize, taker: usize| !there(giver) || !there(taker) || taker < houses;
         let has_astray = |giver: usize| gives[giver].iter().any(|&taker| astray(giver, taker));
-        if places > 14 || houses > places || (0..14).any(has_astray) {
+        if places > MOST_PLACES || houses > places || (0..MOST_PLACES).any(has_astray) {
             return refuse(6, 0);
         }
         gives.truncate(places);
@@ -74,33 +75,46 @@ pub fn places_of(set: usize) -> Vec<usize> {
     (0..16).filter(|place| set >> place & 1 == 1).collect()
 }
 
-/// The fields of the table "Pool records".
+/// The fields of the table "Pool records", "weeks waited" and "the machine's number".
 struct Record<'a>(&'a [u8]);
 
 impl Record<'_> {
     fn is_house(&self) -> bool {
-        self.0[0] == 72
+        self.0[KIND] == HOUSE
     }
 
     fn is_member(&self) -> bool {
-        self.0[0] == 77
+        self.0[KIND] == MEMBER
     }
 
     fn class(&self) -> u8 {
-        self.0[1]
+        self.0[CLASS]
     }
 
     fn grade(&self) -> u8 {
-        self.0[2]
+        self.0[GRADE]
     }
 
     fn least_grade(&self) -> u8 {
-        self.0[3]
+        self.0[LEAST_GRADE]
+    }
+
+    /// "Multi-byte numbers are little-endian."
+    fn two_bytes(&self, at: usize) -> u16 {
+        u16::from(self.0[at]) + 256 * u16::from(self.0[at + 1])
+    }
+
+    fn weeks(&self) -> u16 {
+        self.two_bytes(WEEKS)
+    }
+
+    fn machine_number(&self) -> u16 {
+        self.two_bytes(MACHINE_NUMBER)
     }
 
     /// "classes taken, bit c set where class c is taken", little-endian.
     fn takes(&self, class: u8) -> bool {
-        let byte = self.0[4 + usize::from(class / 8)];
+        let byte = self.0[CLASSES_TAKEN + usize::from(class / 8)];
         byte >> (class % 8) & 1 == 1
     }
 
@@ -114,24 +128,30 @@ impl Record<'_> {
         let house_takes = self.is_house() && (self.least_grade() != 0 || self.takes_any());
         outside || house_takes
     }
+
+    /// "Weeks exceed 999 or the machine number is zero", of houses and members alike.
+    fn weeks_or_machine_wrong(&self) -> bool {
+        self.weeks() > GREATEST_WEEKS || self.machine_number() == 0
+    }
 }
 
-/// Reading pool bytes: the causes 1 to 5, else the pool as a value.
+/// Reading pool bytes: the causes 1 to 5 and 18, else the pool as a value.
 pub fn read(bytes: &[u8]) -> Result<Pool, Refusal> {
-    if !bytes.len().is_multiple_of(8) {
+    if !bytes.len().is_multiple_of(RECORD) {
         return refuse(1, 0);
     }
-    if bytes.len() / 8 > 14 {
+    if bytes.len() / RECORD > MOST_PLACES {
         return refuse(2, 0);
     }
-    let records: Vec<Record> = bytes.chunks(8).map(Record).collect();
+    let records: Vec<Record> = bytes.chunks(RECORD).map(Record).collect();
     for at in 0..records.len() {
         test_record(&records, at)?;
     }
     Ok(value_of(&records))
 }
 
-/// "3 to 5 record by record".
+/// "3 to 5 record by record", and 18 "tested in each record after 5, the spot being the
+/// record".
 fn test_record(records: &[Record], at: usize) -> Result<(), Refusal> {
     let record = &records[at];
     if !record.is_house() && !record.is_member() {
@@ -142,6 +162,9 @@ fn test_record(records: &[Record], at: usize) -> Result<(), Refusal> {
     }
     if record.is_house() && records[..at].iter().any(Record::is_member) {
         return refuse(5, at);
+    }
+    if record.weeks_or_machine_wrong() {
+        return refuse(18, at);
     }
     Ok(())
 }

@@ -1,8 +1,7 @@
 use borrow.Author.Needs.{needs}
-use mathlib.Core.List.{_++_, append-assoc}
-use mathlib.Core.Path.{sym, ap}
-use Rattle.pool.specs.Refusals.{numberOf}
-use Rattle.report.specs.Text.{refusedWord, space, lineFeed, decimal, refusedLine}
+use mathlib.Core.List.{_++_}
+use mathlib.Core.Path.{ap}
+use Rattle.report.specs.Text.{refusedWord, decimal, refusedLine}
 use Rattle.report.proofs.Adding.{then, said}
 use Rattle.report.proofs.lines.put_refused.Statement.{statement}
 use Rattle.report.proofs.lines.put_refused.Tie as tie
@@ -40,10 +39,8 @@ returns c =
     let feed = c .before .before in
     let second = feed .before .before .before .before .before in
     let first = second .before .before .before .before .before in
-    let known = first .before .before .before in
-    let r = known .before .before .args .refusal in
-    said (ap (λ l. l ++ lineFeed) (sym (append-assoc (refusedWord ++ decimal (numberOf (r .cause))) space (decimal (r .at)))))
-    (then (then (said (ap (λ k. refusedWord ++ decimal k) (known .number .ensures)) (first .put-after .ensures)) (second .put-after2 .ensures)) (feed .put .ensures .0))
+    let number = first .before .before .before .number .ensures in
+    then (then (said (ap (λ k. refusedWord ++ decimal k) number) (first .put-after .ensures)) (second .put-after2 .ensures)) (feed .put .ensures .0)
 
 pub put-refused-spec : {M : Type 1} → statement M
 put-refused-spec =

@@ -1,8 +1,6 @@
 use borrow.Author.Needs.{needs}
-use mathlib.Core.List.{_++_, append-assoc}
-use mathlib.Core.Path.{sym, ap}
-use Rattle.report.specs.Text.{servedWord, ofWord, lineFeed, decimal, servedLine}
-use Rattle.report.proofs.Adding.{then, said}
+use Rattle.report.specs.Text.{servedLine}
+use Rattle.report.proofs.Adding.{then}
 use Rattle.report.proofs.lines.put_served.Statement.{statement}
 use Rattle.report.proofs.lines.put_served.Tie as tie
 
@@ -33,9 +31,7 @@ returns c =
     let feed = c .before .before in
     let all = feed .before .before .before .before .before in
     let count = all .before .before .before .before .before in
-    let a = count .before .before .before .before .args in
-    said (ap (λ l. l ++ lineFeed) (sym (append-assoc (servedWord ++ decimal (a .served)) ofWord (decimal (a .members)))))
-    (then (then (count .put-after .ensures) (all .put-after2 .ensures)) (feed .put .ensures .0))
+    then (then (count .put-after .ensures) (all .put-after2 .ensures)) (feed .put .ensures .0)
 
 pub put-served-spec : {M : Type 1} → statement M
 put-served-spec =

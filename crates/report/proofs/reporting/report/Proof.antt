@@ -1,27 +1,28 @@
 use borrow.Author.Needs.{needs}
 use mathlib.Core.Logic.{⊎-elim}
 use mathlib.Core.Path.{_≡_, sym, ap, _∙_}
-use Prim.Native.Nat.{_≤_}
+use Prim.Native.Nat.{_+_, _*_, _≤_}
 use native.Mathlib.Omega.{arith}
 use denote.Ref.{now}
 use lib.ListN.{length, take, replicate}
 use lib.Seq.{length-take-le, take-all}
-use Rattle.report.specs.Text.{textOf, wholeText}
+use Rattle.reading.specs.Fields.{recordWidth, mostRecords}
+use Rattle.report.specs.Text.{counted, textOf, wholeText}
 use Rattle.report.specs.inner.Writing.{Adds}
 use Rattle.report.proofs.Adding.{said}
 use Rattle.report.proofs.Composing.{text-length, no-room, room}
 use Rattle.report.proofs.reporting.report.Statement.{statement}
 use Rattle.report.proofs.reporting.report.Tie as tie
 
--- the first 128 bytes of the pool file
+-- what counts of the pool file
 end-inside : (c : tie.Joined1) → c .if1 .end ≤ length (now (c .before .before .before .before .args .pool))
 end-inside c = ⊎-elim (λ w. omega (arith, w .0 .taken, w .1)) (λ w. omega (arith, w .1)) (c .if1 .came)
 
-front : (c : tie.Joined1) → let pool = now (c .before .before .before .before .args .pool) in take (c .if1 .end) pool ≡ take 128 pool
+front : (c : tie.Joined1) → let pool = now (c .before .before .before .before .args .pool) in take (c .if1 .end) pool ≡ counted pool
 front c =
     let pool = now (c .before .before .before .before .args .pool) in
     ⊎-elim (λ w. ap (λ k. take k pool) (w .1))
-    (λ w. ap (λ k. take k pool) (w .1) ∙ take-all (length pool) pool (omega arith) ∙ sym (take-all 128 pool (omega (arith, w .0 .left))))
+    (λ w. ap (λ k. take k pool) (w .1) ∙ take-all (length pool) pool (omega arith) ∙ sym (take-all (recordWidth * (mostRecords + 2)) pool (omega (arith, w .0 .left))))
     (c .if1 .came)
 
 composed :

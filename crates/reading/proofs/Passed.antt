@@ -1,0 +1,53 @@
+-- What holds of the records of a pool that pass their tests.
+use mathlib.Core.Bool.{not}
+use mathlib.Core.List.{List, [], _∷_, _++_, append-nil}
+use mathlib.Core.Logic.{_⊎_, _≢_}
+use mathlib.Core.Path.{_≡_}
+use Prim.Native.Nat.{ℕ, zero, suc, _≤_, _<_}
+use native.Mathlib.Omega.{arith}
+use lib.Dec.{T, eqb, leb, leb→le, T-not}
+use lib.ListN.{length, getD, take}
+use lib.Seq.{append-snoc}
+use Rattle.kep.specs.Lists.{Each, none, also}
+use Rattle.pool.specs.Causes.{Pass}
+use Rattle.pool.specs.Refusals.{Outcome, accepted}
+use Rattle.reading.specs.Records.{fieldsFit, weeksAndMachineFit, noneOf, fieldTests, recordsTested}
+use Rattle.reading.specs.Fields.{tellsHouse, tellsMember, weeksOf, machineOf}
+use Rattle.kep.proofs.Tests.{or-cases, implies-iff, and-left, and-right, eq→eqb}
+use Rattle.pool.proofs.Tested.{all-held}
+
+-- a record behind those before it meets no cause
+pub record Passes (before : List (List ℕ)) (r : List ℕ) : Type 0 where
+  pub kind : T (tellsHouse r) ⊎ T (tellsMember r)
+  pub fits : T (fieldsFit r)
+  pub in-turn : T (tellsHouse r) → T (noneOf tellsMember before)
+  pub weeks : weeksOf r ≤ 999
+  pub machine : 0 < machineOf r
+
+passes : {before : List (List ℕ)} {r : List ℕ} → Each Pass (fieldTests before r) → Passes before r
+unfolding fieldTests weeksAndMachineFit
+passes {before} {r} (also k (also f (also t (also w none)))) = record {
+  kind = or-cases (tellsHouse r) (tellsMember r) k;
+  fits = f;
+  in-turn = implies-iff (tellsHouse r) (noneOf tellsMember before) .0 t;
+  weeks = leb→le (weeksOf r) 999 (and-left (leb (weeksOf r) 999) (not (eqb (machineOf r) 0)) w);
+  machine =
+      let n : machineOf r ≢ 0 = λ z. T-not (eqb (machineOf r) 0) (and-right (leb (weeksOf r) 999) (not (eqb (machineOf r) 0)) w) (eq→eqb (machineOf r) 0 z) in
+      omega arith;
+}
+
+module _ {A : Type 0} {a : A} (o : Outcome A) where
+  -- the first of them, and the rest behind it
+  pub first-passed : (before : List (List ℕ)) (r : List ℕ) (rs : List (List ℕ)) → recordsTested before (r ∷ rs) o ≡ accepted a
+      → Passes before r × (recordsTested (before ++ (r ∷ [])) rs o ≡ accepted a)
+  unfolding recordsTested
+  first-passed before r rs e =
+      let (hs, rest) = all-held (fieldTests before r) (length before) (recordsTested (before ++ (r ∷ [])) rs o) e in
+      (passes hs, rest)
+
+  -- each of them, behind all before it
+  pub each-passed : (before rs : List (List ℕ)) → recordsTested before rs o ≡ accepted a → (v : ℕ) → v < length rs → Passes (before ++ take v rs) (getD rs v [])
+  each-passed before [] e v l = absurd (omega arith)
+  each-passed before (r ∷ rs) e zero l = rw (append-nil before) (first-passed before r rs e .0)
+  each-passed before (r ∷ rs) e (suc v) l =
+      rw (← append-snoc before r (take v rs)) (each-passed (before ++ (r ∷ [])) rs (first-passed before r rs e .1) v (omega arith))
