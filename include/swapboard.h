@@ -22,7 +22,7 @@ struct swap_answer {
     uint64_t second;
 };
 
-/* Reads a pool, 12 bytes for each place. Refused by 1 to 5 and 18. first: places; second: houses. gives: for each of 14 places the set of the places that
+/* Reads a pool, 12 bytes for each place. Refused by 1 to 5 and 18 to 20. first: places; second: houses. gives: for each of 14 places the set of the places that
  * it gives to. */
 struct swap_answer swap_read_pool(const uint8_t *pool, size_t pool_length, uint16_t gives[14]);
 

@@ -3,6 +3,7 @@
 pub mod baseline;
 pub mod bench_pools;
 pub mod calls;
+pub mod faulty;
 pub mod large;
 pub mod layout;
 pub mod lent;

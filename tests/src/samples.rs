@@ -1,9 +1,8 @@
 //! Pools and limits for the tests, drawn at random or one after the other.
 
-use crate::layout::{GREATEST_WEEKS, MOST_PLACES, RECORD, WEEKS};
 use crate::oracle::exchange::Limits;
 use crate::oracle::pool::{read, Pool};
-use crate::pools::{bytes_of, bytes_of_arcs, random_pool, random_records, random_shape, Record};
+use crate::pools::{bytes_of_arcs, random_pool, random_shape};
 use crate::random::Random;
 
 /// Weeks at the edges of their range and of a byte, and such beyond the range; some of
@@ -106,65 +105,4 @@ pub fn for_every_pool(places: usize, mut visit: impl FnMut(&Pool)) {
             visit(&pool_with(places, houses, gives));
         }
     }
-}
-
-/// What alters a faultless record.
-pub type Fault = fn(&mut Record);
-
-/// Each number of a record's causes with a fault; that of 5 is one only behind a member.
-pub const FAULTS: [(u64, Fault); 5] = [
-    (3, |record| record.kind = 70),
-    (4, |record| record.class = 40),
-    (5, |record| *record = Record::house(3, 60)),
-    (18, |record| record.weeks = 1_000),
-    (18, |record| record.machine = 0),
-];
-
-/// A pool with two faults of any numbers, in one record or in two.
-pub fn pool_of_two_faults(random: &mut Random, places: usize) -> Vec<u8> {
-    let houses = random.between(0, places);
-    let mut records = random_records(random, places, houses);
-    let one = random.below(places);
-    let other = if random.chance(50) {
-        one
-    } else {
-        random.below(places)
-    };
-    let mut faults = [random.pick(&FAULTS), random.pick(&FAULTS)];
-    // That of 5 makes the record anew, so it comes first.
-    faults.sort_by_key(|(number, _)| *number != 5);
-    for ((_, fault), at) in faults.into_iter().zip([one, other]) {
-        fault(&mut records[at]);
-    }
-    bytes_of(&records)
-}
-
-/// Pools with the fault of each number from 1 to 5 and of 18, and its spot: records with
-/// one at fault behind a member, or too many of them. Of the lengths some are whole records
-/// without weeks and machine number.
-pub fn faulty_pools(
-    random: &mut Random,
-    places: usize,
-    houses: usize,
-    at: usize,
-) -> Vec<(Vec<u8>, u64, usize)> {
-    let records = random_records(random, places, houses);
-    let altered = |fault: Fault| {
-        let mut records = records.clone();
-        fault(&mut records[at]);
-        bytes_of(&records)
-    };
-    vec![
-        (bytes_of(&records)[1..].to_vec(), 1, 0),
-        (bytes_of(&records)[WEEKS..].to_vec(), 1, 0),
-        (bytes_of(&records)[RECORD - WEEKS..].to_vec(), 1, 0),
-        (bytes_of(&random_records(random, MOST_PLACES + 1, 2)), 2, 0),
-        (bytes_of(&random_records(random, 25, 2)), 2, 0),
-        (altered(|record| record.kind = 0), 3, at),
-        (altered(|record| record.grade = 101), 4, at),
-        (altered(|record| record.least = 101), 4, at),
-        (altered(|record| *record = Record::house(1, 1)), 5, at),
-        (altered(|record| record.weeks = GREATEST_WEEKS + 1), 18, at),
-        (altered(|record| record.machine = 0), 18, at),
-    ]
 }

@@ -2,6 +2,7 @@
 
 use std::collections::BTreeMap;
 use swapboard_tests::calls::{self, Answer};
+use swapboard_tests::faulty::*;
 use swapboard_tests::layout::*;
 use swapboard_tests::lent::Lent;
 use swapboard_tests::misses::{misses_at, Miss};
@@ -401,18 +402,14 @@ fn faults_of_the_pool_come_first() {
     }
 }
 
-/// Pool A with each fault of a record, and the other faults of a pool, before limits and
-/// plans that meet every later number.
+/// Each cause of reading, those of a record at every record, before limits and plans that
+/// meet every later number.
 #[test]
 fn every_fault_of_the_pool_before_every_other() {
     let random = &mut Random::new(418);
-    let mut pools = faulty_pools(random, 6, 1, 4);
+    let mut pools = Vec::new();
     for at in 0..6 {
-        for (bytes, values) in [(WEEKS, [232, 3]), (WEEKS, [0, 4]), (MACHINE_NUMBER, [0, 0])] {
-            let mut pool = pool_a();
-            pool[at * RECORD + bytes..][..2].copy_from_slice(&values);
-            pools.push((pool, 18, at));
-        }
+        pools.extend(faulty_pools(random, 6, 2, at));
     }
     let chain = chain(&[0, 1, 2]);
     let plans = [
@@ -436,6 +433,23 @@ fn every_fault_of_the_pool_before_every_other() {
             }
         }
     }
+}
+
+/// With the empty plan, in which no later cause is met.
+fn expect_refused_record(random: &mut Random, pool: &[u8], number: u64, at: usize) {
+    expect_refused(random, pool, Limits::new(3, 3), &[], number, at);
+}
+
+#[test]
+fn faults_of_every_record() {
+    let random = &mut Random::new(420);
+    for_every_record_at_fault(random, expect_refused_record);
+}
+
+#[test]
+fn faults_of_every_two_records() {
+    let random = &mut Random::new(421);
+    for_every_two_records_at_fault(random, 6, expect_refused_record);
 }
 
 /// Pools that differ in weeks and machine numbers alone have the same legal plans.

@@ -3,6 +3,7 @@
 use swapboard_tests::baseline::clear::{self as baseline, Workspace};
 use swapboard_tests::bench_pools::{pools_of_fourteen, pools_of_six, BenchPool};
 use swapboard_tests::calls::{clear, Answer};
+use swapboard_tests::faulty::*;
 use swapboard_tests::large;
 use swapboard_tests::layout::*;
 use swapboard_tests::lent::Lent;
@@ -646,13 +647,17 @@ fn limits_up_to_fourteen_and_no_further() {
     }
 }
 
-/// Every choice of causes met together: the smallest number is given.
+/// Every choice of the later causes met together, by themselves and behind each cause of
+/// reading, in a house and in a member: that of reading is given, else the smallest number.
 #[test]
 fn order_of_causes() {
     let random = &mut Random::new(315);
-    let good = (bytes_of(&random_records(random, 4, 1)), 0, 0);
+    let mut pools = vec![(bytes_of(&random_records(random, 4, 1)), 0, 0)];
+    for houses in [0, 3] {
+        pools.extend(faulty_pools(random, 4, houses, 2));
+    }
     let needed = Rooms::needed(4);
-    for (bytes, number, at) in faulty_pools(random, 4, 0, 2).into_iter().chain([good]) {
+    for (bytes, number, at) in pools {
         for causes in 0..16 {
             let met = |cause: usize| causes >> cause & 1;
             let limits = Limits::new(2, 2 + 13 * met(0) as u8);
@@ -672,34 +677,29 @@ fn order_of_causes() {
     }
 }
 
-/// 18 at every record, a house or a member, with all lent memory as it was; alone and with
-/// every later cause.
-#[test]
-fn wrong_weeks_and_machine_numbers_at_every_record() {
-    let random = &mut Random::new(326);
+/// With no other cause and with every later one.
+fn expect_refused_record(random: &mut Random, bytes: &[u8], number: u64, at: usize) {
     let none = Rooms {
         exchanges: 0,
         best: 0,
         plan: 0,
     };
-    for places in 1..=MOST_PLACES {
-        for houses in [0, places / 2, places] {
-            let records = random_records(random, places, houses);
-            for at in 0..places {
-                let mut many_weeks = records.clone();
-                many_weeks[at].weeks = random.pick(&BAD_WEEKS);
-                let mut no_machine = records.clone();
-                no_machine[at].machine = 0;
-                for faulty in [many_weeks, no_machine] {
-                    let bytes = bytes_of(&faulty);
-                    let expected = refuse(18, at);
-                    let rooms = Rooms::needed(places);
-                    expect_cleared(random, &bytes, Limits::new(3, 3), rooms, &expected);
-                    expect_cleared(random, &bytes, Limits::new(3, 15), none, &expected);
-                }
-            }
-        }
-    }
+    let needed = Rooms::needed(bytes.len() / RECORD);
+    let expected = refuse(number, at);
+    expect_cleared(random, bytes, Limits::new(3, 3), needed, &expected);
+    expect_cleared(random, bytes, Limits::new(3, 15), none, &expected);
+}
+
+#[test]
+fn faults_of_every_record() {
+    let random = &mut Random::new(326);
+    for_every_record_at_fault(random, expect_refused_record);
+}
+
+#[test]
+fn faults_of_every_two_records() {
+    let random = &mut Random::new(328);
+    for_every_two_records_at_fault(random, 6, expect_refused_record);
 }
 
 /// Pools that differ in weeks and machine numbers alone have the same tables and plan.

@@ -8,7 +8,7 @@ use std::path::Path;
 use std::process::{Command, Stdio};
 use std::thread::sleep;
 use std::time::Duration;
-use swapboard_tests::layout::{MACHINE_NUMBER, MOST_PLACES, RECORD};
+use swapboard_tests::layout::{CLASSES_TAKEN, GRADE, MACHINE_NUMBER, MOST_PLACES, RECORD};
 use swapboard_tests::pools::{bytes_of, bytes_of_arcs, one_ring, pool_a, random_records};
 use swapboard_tests::program::{of_project, program, run, text, Files, Folder, Run, COUNTED};
 use swapboard_tests::random::Random;
@@ -71,10 +71,15 @@ fn answers_end_with_zero() {
     expect_answer(&Folder::with(&files_a()), plan);
     let refused = Files::new(&pool_a()[1..], 2, 2);
     expect_answer(&Folder::with(&refused), "refused 1 0\n");
-    let mut no_machine = pool_a();
-    no_machine[3 * RECORD + MACHINE_NUMBER] = 0;
-    let refused = Files::new(&no_machine, 2, 2);
-    expect_answer(&Folder::with(&refused), "refused 18 3\n");
+    for (byte, value, printed) in [
+        (3 * RECORD + MACHINE_NUMBER, 0, "refused 18 3\n"),
+        (5 * RECORD + GRADE, 101, "refused 19 5\n"),
+        (CLASSES_TAKEN, 1, "refused 20 0\n"),
+    ] {
+        let mut pool = pool_a();
+        pool[byte] = value;
+        expect_answer(&Folder::with(&Files::new(&pool, 2, 2)), printed);
+    }
     expect_answer(&Folder::new(), "refused 7 0\n");
 }
 

@@ -1,5 +1,6 @@
 //! The workshop program on whole files: all it prints, byte for byte.
 
+use swapboard_tests::faulty::*;
 use swapboard_tests::layout::*;
 use swapboard_tests::pools::*;
 use swapboard_tests::program::{printed, text, Files, COUNTED};
@@ -225,35 +226,6 @@ fn limits_up_to_fourteen_and_no_further() {
     }
 }
 
-/// Each wrong field of a record, with its number.
-fn faults(record: Record) -> Vec<(Record, u64)> {
-    let mut faults = Vec::new();
-    for kind in [0, 1, 67, 71, 73, 76, 78, 82, 104, 109, 255] {
-        faults.push((Record { kind, ..record }, 3));
-    }
-    for class in [32, 33, 64, 255] {
-        faults.push((Record { class, ..record }, 4));
-    }
-    for grade in [101, 128, 255] {
-        let least = grade;
-        faults.push((Record { grade, ..record }, 4));
-        faults.push((Record { least, ..record }, 4));
-    }
-    if record.kind == HOUSE {
-        faults.push((Record { least: 1, ..record }, 4));
-        for byte in 0..4 {
-            let taken = 1 << (8 * byte);
-            faults.push((Record { taken, ..record }, 4));
-        }
-    }
-    for weeks in BAD_WEEKS {
-        faults.push((Record { weeks, ..record }, 18));
-    }
-    let machine = 0;
-    faults.push((Record { machine, ..record }, 18));
-    faults
-}
-
 #[test]
 fn wrong_fields_at_every_record() {
     let random = &mut Random::new(504);
@@ -261,10 +233,8 @@ fn wrong_fields_at_every_record() {
         for house in [true, false] {
             let houses = at + usize::from(house);
             let records = random_records(random, MOST_PLACES, houses);
-            for (fault, number) in faults(records[at]) {
-                let mut records = records.clone();
-                records[at] = fault;
-                expect_refusal(&Files::new(&bytes_of(&records), 2, 2), number, at);
+            for (pool, number) in pools_of_wrong_fields(&records, at) {
+                expect_refusal(&Files::new(&pool, 2, 2), number, at);
             }
         }
     }
@@ -282,14 +252,16 @@ fn a_house_after_a_member_at_every_record() {
     }
 }
 
-/// Every value of the first four bytes of a member, those in range too.
+/// Every value of the first four bytes of a member and of a house's least grade, those in
+/// range too.
 #[test]
 fn every_value_of_a_field() {
-    for field in [KIND, CLASS, GRADE, LEAST_GRADE] {
+    let of_member = [KIND, CLASS, GRADE, LEAST_GRADE].map(|field| 2 * RECORD + field);
+    for byte in of_member.into_iter().chain([LEAST_GRADE]) {
         for value in 0..=255 {
-            let mut pool = pool_b();
-            pool[2 * RECORD + field] = value;
-            compare(&Files::new(&pool, 3, 0));
+            let mut pool = pool_a();
+            pool[byte] = value;
+            compare(&Files::new(&pool, 2, 2));
         }
     }
 }
@@ -313,28 +285,32 @@ fn weeks_and_machine_numbers_make_no_difference() {
     }
 }
 
-/// Two faults: the earlier record's is told, in one record the smaller number.
+/// Two records at fault: the earlier one's is told.
 #[test]
-fn the_first_of_two_faults() {
+fn the_first_of_two_records_at_fault() {
     let random = &mut Random::new(506);
-    for (number, first) in FAULTS {
-        for (_, second) in FAULTS {
-            let mut records = random_records(random, 12, 2);
-            first(&mut records[4]);
-            second(&mut records[10]);
-            expect_refusal(&Files::new(&bytes_of(&records), 2, 2), number, 4);
+    let records = random_records(random, 12, 2);
+    for first in FAULTS {
+        let mut records = records.clone();
+        first.1(&mut records[4]);
+        for second in FAULTS {
+            let pool = pool_with_faults(&records, 10, &[second]);
+            expect_refusal(&Files::new(&pool, 2, 2), first.0, 4);
         }
     }
-    let mut records = random_records(random, 12, 2);
-    for (number, fault) in FAULTS.into_iter().rev() {
-        let (weeks, machine) = (1_000, 0);
-        fault(&mut records[11]);
-        records[11] = Record {
-            weeks,
-            machine,
-            ..records[11]
-        };
-        expect_refusal(&Files::new(&bytes_of(&records), 2, 2), number, 11);
+}
+
+/// Two faults in one record: the first of 3, 4, 19, 20, 5, 18 is told.
+#[test]
+fn the_first_of_two_faults_in_every_record() {
+    let random = &mut Random::new(514);
+    for (places, houses) in [(1, 1), (2, 0), (5, 2)] {
+        let records = random_records(random, places, houses);
+        for at in 0..places {
+            for (pool, number) in pools_of_one_or_two_faults(&records, at) {
+                expect_refusal(&Files::new(&pool, 2, 2), number, at);
+            }
+        }
     }
 }
 
@@ -342,17 +318,16 @@ fn the_first_of_two_faults() {
 #[test]
 fn lengths_before_records() {
     let random = &mut Random::new(507);
-    for (number, fault) in FAULTS.into_iter().filter(|(number, _)| *number != 5) {
-        let mut records = random_records(random, 16, 2);
-        fault(&mut records[0]);
-        let pool = bytes_of(&records);
+    let records = random_records(random, 16, 2);
+    for fault in faults_at(&records, 0) {
+        let pool = pool_with_faults(&records, 0, &[fault]);
         let most = MOST_PLACES * RECORD;
         for length in [RECORD + 1, most - 1, most + 1, COUNTED - 1] {
             expect_refusal(&Files::new(&pool[..length], 2, 2), 1, 0);
         }
         expect_refusal(&Files::new(&pool[..most + RECORD], 2, 2), 2, 0);
         expect_refusal(&Files::new(&pool, 2, 2), 2, 0);
-        expect_refusal(&Files::new(&pool[..most], 2, 2), number, 0);
+        expect_refusal(&Files::new(&pool[..most], 2, 2), fault.0, 0);
     }
 }
 

@@ -2,13 +2,14 @@
 
 use swapboard_tests::baseline::pool::read_pool as read_by_baseline;
 use swapboard_tests::calls::{read_pool, Answer};
+use swapboard_tests::faulty::*;
 use swapboard_tests::layout::*;
 use swapboard_tests::lent::Lent;
 use swapboard_tests::oracle::pool::{read, Pool};
 use swapboard_tests::pools::*;
 use swapboard_tests::random::Random;
 use swapboard_tests::refusal::Refusal;
-use swapboard_tests::samples::{pool_with, Fault, BAD_WEEKS, FAULTS, GOOD_MACHINES, GOOD_WEEKS};
+use swapboard_tests::samples::{pool_with, GOOD_MACHINES, GOOD_WEEKS};
 
 /// Calls with garbage in `gives`; on a refusal all of it must be as it was.
 fn call(random: &mut Random, pool: &[u8]) -> (Answer, Option<[u16; MOST_PLACES]>) {
@@ -54,6 +55,14 @@ fn compare(random: &mut Random, pool: &[u8]) {
     match read(pool) {
         Ok(value) => expect_accepted(random, pool, &value),
         Err(refusal) => expect_refused(random, pool, refusal.number, refusal.at as usize),
+    }
+}
+
+/// Refused by the number at this record, or accepted where there is none.
+fn expect_number(random: &mut Random, pool: &[u8], number: Option<u64>, at: usize) {
+    match number {
+        Some(number) => expect_refused(random, pool, number, at),
+        None => expect_accepted(random, pool, &read(pool).expect("no cause is met")),
     }
 }
 
@@ -137,17 +146,23 @@ fn very_long_pools() {
     }
 }
 
+/// Each cause alone, at houses and at members.
 #[test]
-fn every_other_kind_at_every_record() {
-    let random = &mut Random::new(103);
+fn wrong_fields_at_every_record() {
+    let random = &mut Random::new(104);
     for_all_sizes(|places, houses| {
         let records = random_records(random, places, houses);
         for at in 0..places {
-            for kind in [0, 71, 73, 76, 78, 104, 109, 255] {
-                expect_fault(random, &records, at, 3, |record| record.kind = kind);
+            for (pool, number) in pools_of_wrong_fields(&records, at) {
+                expect_refused(random, &pool, number, at);
             }
         }
     });
+}
+
+#[test]
+fn every_other_kind() {
+    let random = &mut Random::new(103);
     let records = random_records(random, 3, 1);
     for kind in (0..=255).filter(|kind| ![HOUSE, MEMBER].contains(kind)) {
         for at in 0..records.len() {
@@ -156,36 +171,22 @@ fn every_other_kind_at_every_record() {
     }
 }
 
+/// What a house may not take, a member may: any class, alone or left out, at any least grade.
 #[test]
-fn every_field_outside_its_range_at_every_record() {
-    let random = &mut Random::new(104);
-    for_all_sizes(|places, houses| {
-        let records = random_records(random, places, houses);
-        for at in 0..places {
-            expect_fault(random, &records, at, 4, |record| record.class = 32);
-            expect_fault(random, &records, at, 4, |record| record.class = 255);
-            expect_fault(random, &records, at, 4, |record| record.grade = 101);
-            expect_fault(random, &records, at, 4, |record| record.grade = 255);
-            expect_fault(random, &records, at, 4, |record| record.least = 101);
-            expect_fault(random, &records, at, 4, |record| record.least = 255);
-        }
-    });
-}
-
-#[test]
-fn a_house_that_takes_anything() {
+fn a_member_that_takes_anything() {
     let random = &mut Random::new(105);
-    for_all_sizes(|places, houses| {
-        let records = random_records(random, places, houses);
-        for at in 0..houses {
-            for least in [1, 50, 100] {
-                expect_fault(random, &records, at, 4, |record| record.least = least);
-            }
-            for class in 0..32 {
-                expect_fault(random, &records, at, 4, |record| record.taken = 1 << class);
+    let houses = 2;
+    let mut records = random_records(random, MOST_PLACES, houses);
+    for at in houses..MOST_PLACES {
+        for class in 0..32 {
+            for taken in [1 << class, !(1 << class)] {
+                for least in [0, 1, 99, 100] {
+                    (records[at].least, records[at].taken) = (least, taken);
+                    expect_number(random, &bytes_of(&records), None, at);
+                }
             }
         }
-    });
+    }
 }
 
 #[test]
@@ -212,15 +213,46 @@ fn greatest_values_in_range_are_accepted() {
     });
 }
 
+/// The number that a value of a field is refused by, in a record without another fault.
+fn number_of(house: bool, field: usize, value: u8) -> Option<u64> {
+    match (field, value) {
+        (CLASS, 32..) => Some(4),
+        (GRADE | LEAST_GRADE, 101..) => Some(19),
+        (LEAST_GRADE, 1..) if house => Some(20),
+        _ => None,
+    }
+}
+
 #[test]
-fn every_value_of_every_bounded_field() {
+fn every_value_of_every_bounded_field_at_every_record() {
     let random = &mut Random::new(107);
-    for value in 0..=255u8 {
+    let houses = MOST_PLACES / 2;
+    let sound = bytes_of(&random_records(random, MOST_PLACES, houses));
+    for value in 0..=255 {
         for field in [CLASS, GRADE, LEAST_GRADE] {
-            for place in 0..4 {
-                let mut pool = bytes_of(&random_records(random, 4, 2));
-                pool[place * RECORD + field] = value;
-                compare(random, &pool);
+            for at in 0..MOST_PLACES {
+                let mut pool = sound.clone();
+                pool[at * RECORD + field] = value;
+                let number = number_of(at < houses, field, value);
+                expect_number(random, &pool, number, at);
+            }
+        }
+    }
+}
+
+/// Every value of one with every value of another, in a house and in a member.
+#[test]
+fn every_value_of_two_bounded_fields() {
+    let random = &mut Random::new(128);
+    for record in [Record::house(0, 50), Record::member(0, 50, 0, 1)] {
+        for (one, other) in [(CLASS, GRADE), (CLASS, LEAST_GRADE), (GRADE, LEAST_GRADE)] {
+            let mut pool = record.bytes();
+            for value in 0..=255 {
+                pool[one] = value;
+                for value in 0..=255 {
+                    pool[other] = value;
+                    compare(random, &pool);
+                }
             }
         }
     }
@@ -256,7 +288,7 @@ fn expect_value_or_18(random: &mut Random, pool: &[u8], value: &Pool, at: usize,
 
 /// Of houses and members alike.
 #[test]
-fn weeks_and_machine_numbers_at_their_edges_at_every_record() {
+fn weeks_and_machine_numbers_at_their_edges_are_accepted() {
     let random = &mut Random::new(122);
     for_all_sizes(|places, houses| {
         let gives = random_shape(random, places, houses);
@@ -272,14 +304,6 @@ fn weeks_and_machine_numbers_at_their_edges_at_every_record() {
                 let altered = with_machine(&records, at, machine);
                 expect_accepted(random, &bytes_of(&altered), &value);
             }
-            for weeks in BAD_WEEKS {
-                expect_fault(random, &records, at, 18, |record| record.weeks = weeks);
-                expect_fault(random, &records, at, 18, |record| {
-                    record.weeks = weeks;
-                    record.machine = 0;
-                });
-            }
-            expect_fault(random, &records, at, 18, |record| record.machine = 0);
         }
     });
 }
@@ -353,6 +377,36 @@ fn records_told_byte_by_byte() {
     }
 }
 
+/// The first eight bytes of a record by hand, first in the pool and behind a member, where a
+/// house is late.
+#[test]
+fn causes_told_byte_by_byte() {
+    let random = &mut Random::new(129);
+    let behind = [&[0, 0, 2, 0][..], &Record::member(0, 50, 0, 0).bytes()].concat();
+    for (record, number) in [
+        ([70, 32, 101, 101, 1, 0, 0, 0], Some(3)),
+        ([72, 32, 101, 101, 1, 0, 0, 0], Some(4)),
+        ([72, 31, 101, 0, 0, 0, 0, 0], Some(19)),
+        ([72, 31, 101, 1, 1, 0, 0, 0], Some(19)),
+        ([72, 31, 100, 101, 0, 0, 0, 0], Some(19)),
+        ([72, 31, 100, 100, 0, 0, 0, 0], Some(20)),
+        ([72, 31, 100, 1, 0, 0, 0, 0], Some(20)),
+        ([72, 31, 100, 0, 1, 0, 0, 0], Some(20)),
+        ([72, 31, 100, 0, 0, 0, 0, 128], Some(20)),
+        ([72, 31, 100, 0, 0, 0, 0, 0], None),
+        ([77, 32, 101, 101, 1, 0, 0, 0], Some(4)),
+        ([77, 31, 101, 100, 1, 0, 0, 0], Some(19)),
+        ([77, 31, 100, 101, 1, 0, 0, 0], Some(19)),
+        ([77, 31, 100, 100, 255, 255, 255, 255], None),
+    ] {
+        let pool = [&record[..], &behind].concat();
+        expect_number(random, &pool, number, 0);
+        let late = (record[KIND] == 72).then_some(5);
+        let turned = [&pool[RECORD..], &pool[..RECORD]].concat();
+        expect_number(random, &turned, number.or(late), 1);
+    }
+}
+
 /// "Pools A and B go on with weeks 0 and place plus 1 as machine number."
 #[test]
 fn pools_a_and_b_byte_by_byte() {
@@ -413,109 +467,50 @@ fn houses_after_a_member_that_is_not_the_record_before() {
 }
 
 /// The first record at fault decides, be it a house or a member, whatever is wrong in one
-/// behind it or in all.
+/// behind it or in all: its 18 comes before their 3.
 #[test]
 fn order_of_causes_between_records() {
     let random = &mut Random::new(110);
-    for early in 0..MOST_PLACES - 1 {
-        for late in early + 1..MOST_PLACES {
-            for houses in [0, early + 1, late + 1] {
-                let behind_member = |(number, _): &(u64, Fault)| *number != 5 || early > houses;
-                for (number, first) in FAULTS.into_iter().filter(behind_member) {
-                    let mut records = random_records(random, MOST_PLACES, houses);
-                    first(&mut records[early]);
-                    let alone = records.clone();
-                    for (_, second) in FAULTS {
-                        records[late] = alone[late];
-                        second(&mut records[late]);
-                        expect_refused(random, &bytes_of(&records), number, early);
-                    }
-                    for record in &mut records[late..] {
-                        random.pick(&FAULTS).1(record);
-                    }
-                    expect_refused(random, &bytes_of(&records), number, early);
-                }
-            }
-        }
-    }
+    for_every_two_records_at_fault(random, MOST_PLACES, expect_refused);
 }
 
-/// In one record the smallest number decides, and 18 is the last: every choice of the
-/// causes that can be met together, at members and at houses.
+/// In one record the first of 3, 4, 19, 20, 5, 18 decides: every choice of the ways to meet
+/// them together, at every record of pools of members, of houses and of both.
 #[test]
 fn order_of_causes_in_one_record() {
-    const FOURS: [Fault; 3] = [
-        |record| record.class = 32,
-        |record| record.grade = 101,
-        |record| record.least = 101,
-    ];
-    const EIGHTEENS: [Fault; 4] = [
-        |record| record.weeks = 1_000,
-        |record| record.weeks = u16::MAX,
-        |record| record.machine = 0,
-        |record| (record.weeks, record.machine) = (1_000, 0),
-    ];
     let random = &mut Random::new(111);
-    for at in 0..MOST_PLACES {
-        for houses in [0, MOST_PLACES] {
-            let records = random_records(random, MOST_PLACES, houses);
-            let can_be_late = at > houses;
-            for causes in 1..16 {
-                let [three, four, five, eighteen] =
-                    [0, 1, 2, 3].map(|cause| causes >> cause & 1 == 1);
-                if five && (three || !can_be_late) {
-                    continue;
-                }
-                let number = match (three, four, five) {
-                    (true, _, _) => 3,
-                    (_, true, _) => 4,
-                    (_, _, true) => 5,
-                    _ => 18,
-                };
-                for wrong_field in FOURS {
-                    for wrong_number in EIGHTEENS {
-                        expect_fault(random, &records, at, number, |record| {
-                            if five {
-                                *record = Record::house(0, 50);
-                            }
-                            if three {
-                                record.kind = 0;
-                            }
-                            if four {
-                                wrong_field(record);
-                            }
-                            if eighteen {
-                                wrong_number(record);
-                            }
-                        });
-                    }
-                }
+    for places in [1, 2, 3, 8, MOST_PLACES] {
+        for houses in [0, places / 2, places] {
+            let records = random_records(random, places, houses);
+            for at in 0..places {
+                expect_first_of_every_choice(random, &records, at);
             }
         }
     }
 }
 
-/// The narrower ranges of a house come before its being late, and that before 18.
+fn expect_first_of_every_choice(random: &mut Random, records: &[Record], at: usize) {
+    let faults = faults_at(records, at);
+    for choice in 1..1 << faults.len() {
+        let places = (0..faults.len()).filter(|place| choice >> place & 1 == 1);
+        let chosen: Vec<_> = places.map(|place| faults[place]).collect();
+        let pool = pool_with_faults(records, at, &chosen);
+        expect_refused(random, &pool, chosen[0].0, at);
+    }
+}
+
+/// Every wrong field of a house comes before its being late, but for weeks and machine
+/// number.
 #[test]
 fn order_of_causes_in_a_late_house() {
     let random = &mut Random::new(127);
     for at in 1..MOST_PLACES {
-        let records = random_records(random, MOST_PLACES, 0);
-        for (weeks, machine) in [(0, 1), (1_000, 1), (0, 0)] {
-            let late = Record {
-                weeks,
-                machine,
-                ..Record::house(0, 50)
-            };
-            expect_fault(random, &records, at, 5, |record| *record = late);
-            expect_fault(random, &records, at, 4, |record| {
-                *record = late;
-                record.taken = 1 << 31;
-            });
-            expect_fault(random, &records, at, 4, |record| {
-                *record = late;
-                record.least = 1;
-            });
+        let mut records = random_records(random, MOST_PLACES, 0);
+        records[at] = Record::house(0, 50);
+        expect_refused(random, &bytes_of(&records), 5, at);
+        for (pool, number) in pools_of_wrong_fields(&records, at) {
+            let first = if number == 18 { 5 } else { number };
+            expect_refused(random, &pool, first, at);
         }
     }
 }

@@ -10,7 +10,7 @@ use Rattle.kep.specs.Lists.{keep}
 use Rattle.kep.specs.Graph.{isAltruist, isMember, WellFormed}
 use Rattle.pool.specs.Refusals.{accepted}
 use Rattle.reading.specs.Records.{readPool, GivesTo}
-use Rattle.reading.specs.Fields.{recordWidth, tellsHouse, tellsMember, weeksOf, machineOf, poolRecords}
+use Rattle.reading.specs.Fields.{recordWidth, tellsHouse, tellsMember, classOf, gradeOf, leastOf, takenOf, weeksOf, machineOf, poolRecords}
 use Rattle.pool.specs.Value.{graphOf, poolFits}
 use Rattle.kep.specs.Plan.{FitRecords}
 use Rattle.reading.proofs.ReadPool.{read-size, read-passed, read-fits, read-formed, read-arcs}
@@ -32,6 +32,17 @@ module _ (bytes : List ℕ) {p : Pool} (read : readPool bytes ≡ accepted p) wh
   -- Its members are as many as the records of members.
   pub members-counted : p .size - p .altruists ≡ length (keep tellsMember (poolRecords bytes))
   members-counted = read-members-count bytes read
+
+  -- Of every place the class is 0 to 31, and both grades are 0 to 100; a house takes nothing: its least grade is 0, and so are its classes taken.
+  pub classes-in-range : (u : ℕ) → u < p .size → classOf (getD (poolRecords bytes) u []) ≤ 31
+  classes-in-range u there = read-passed bytes read u there .class
+
+  pub grades-in-range : (u : ℕ) → u < p .size → (gradeOf (getD (poolRecords bytes) u []) ≤ 100) × (leastOf (getD (poolRecords bytes) u []) ≤ 100)
+  grades-in-range u there = read-passed bytes read u there .grades
+
+  pub houses-take-nothing : (u : ℕ) → u < p .size → T (tellsHouse (getD (poolRecords bytes) u []))
+      → (leastOf (getD (poolRecords bytes) u []) ≡ 0) × (takenOf (getD (poolRecords bytes) u []) ≡ 0)
+  houses-take-nothing u there = read-passed bytes read u there .takes-nothing
 
   -- Of every place the weeks waited are 0 to 999, and the machine has a number other than 0.
   pub weeks-in-range : (u : ℕ) → u < p .size → weeksOf (getD (poolRecords bytes) u []) ≤ 999

@@ -1,4 +1,4 @@
--- The rows of document 01's table, its whole output for pool A, and three refusals, computed from the definitions: one theorem.
+-- The rows of document 01's table, its whole output for pool A, and some refusals, computed from the definitions: one theorem.
 use mathlib.Core.Bool.{true, false}
 use mathlib.Core.List.{List, [], _∷_, _++_}
 use mathlib.Core.Path.{_≡_, refl}
@@ -8,10 +8,10 @@ use Rattle.pool.specs.declared.value.Pool.{Pool}
 use Rattle.kep.specs.Lists.{all, elem, distinct, keep, upto, total, tabulate, cut, flat, before}
 use Rattle.kep.specs.computed.Answer.{sublists, plans, better, pick, answer}
 use Rattle.kep.specs.Sets.{setOf, has, setWhere, worthOf}
-use Rattle.pool.specs.Refusals.{accepted, tested}
+use Rattle.pool.specs.Refusals.{accepted, refused, tested}
 use Rattle.pool.specs.Limits.{limitsOf}
 use Rattle.pool.specs.Value.{graphOf, emptyPool}
-use Rattle.reading.specs.Records.{fieldsFit, weeksAndMachineFit, fieldTests, recordsTested, readPool}
+use Rattle.reading.specs.Records.{fieldTests, recordsTested, readPool}
 use Rattle.reading.specs.computed.Pool.{recordGives, takersOf, poolOf}
 use Rattle.kep.specs.computed.Arrangements.{concatMap, remove, arrangements}
 use Rattle.kep.specs.Exchange.{walk, lastOf, isCycle, isChain, isExchange, turnedBy, turned, headOf}
@@ -112,6 +112,9 @@ pub rows :
     -- grade 50, least 50: arc; least 51: none
     × (recordGives (member 0) (member 50) ≡ true)
     × (recordGives (member 0) (member 51) ≡ false)
+    -- a house's least grade of 101: 19, not 20; a house after a member that takes a class: 20, not 5
+    × (readPool (placed 0 (72 ∷ 0 ∷ 50 ∷ 101 ∷ 0 ∷ 0 ∷ 0 ∷ 0 ∷ [])) ≡ refused 19 0)
+    × (readPool (member 0 ++ placed 1 (72 ∷ 0 ∷ 50 ∷ 0 ∷ 1 ∷ 0 ∷ 0 ∷ 0 ∷ [])) ≡ refused 20 1)
     -- 192 bytes of a longer file count
     × (length (counted (replicate 200 0)) ≡ 192)
     -- the printed text: A, 2, 2; limits that are not two bytes; a record of another kind; weeks 1000
@@ -137,9 +140,9 @@ pub rows :
     ≡ 114 ∷ 101 ∷ 102 ∷ 117 ∷ 115 ∷ 101 ∷ 100 ∷ 32 ∷ 49 ∷ 56 ∷ 32 ∷ 48 ∷ 10 ∷ []
     )
 unfolding
-    all elem distinct keep upto total tabulate cut setOf has setWhere worthOf tested fieldsFit weeksAndMachineFit fieldTests recordsTested recordGives takersOf poolOf readPool
+    all elem distinct keep upto total tabulate cut setOf has setWhere worthOf tested fieldTests recordsTested recordGives takersOf poolOf readPool
     concatMap remove arrangements walk lastOf isCycle isChain isExchange turnedBy turned headOf lowestFirst exchanges endsAt some entry marks markedParts
     greatestOf most best flat sublists before insert inOrder kindOf recordOf recordsOf recordForm plans better pick answer placed poolA valueA poolB valueB member plan bestServed entryOf
     listed verticesOf kindWord digits decimal servedLine refusedLine placeText placesText recordLine recordLines planText outcomeText printed wholeText
 rows =
-    (refl, refl, refl, refl, refl, refl, refl, refl, refl, refl, refl, refl, refl, refl, refl, refl, refl, refl, refl, refl, refl, refl, refl, refl, refl, refl, refl, refl, refl, refl, refl, refl, refl, refl)
+    (refl, refl, refl, refl, refl, refl, refl, refl, refl, refl, refl, refl, refl, refl, refl, refl, refl, refl, refl, refl, refl, refl, refl, refl, refl, refl, refl, refl, refl, refl, refl, refl, refl, refl, refl, refl)

@@ -7,12 +7,12 @@ use Rattle.pool.specs.declared.refusal.Cause.the-variants as cause
 use Rattle.pool.specs.declared.refusal.Verdict.{Verdict}
 use Rattle.pool.specs.declared.refusal.Verdict.the-variants as verdict
 
--- document 01, Causes and numbers; 18: document 02, P1
+-- document 01, Causes and numbers; from 18 on document 02
 abbrev pub numberOf : Cause → ℕ
 numberOf cause.PoolLength = 1
 numberOf cause.PoolSize = 2
 numberOf cause.RecordKind = 3
-numberOf cause.RecordField = 4
+numberOf cause.RecordClass = 4
 numberOf cause.AltruistAfterMember = 5
 numberOf cause.PoolValue = 6
 numberOf cause.Limit = 7
@@ -27,6 +27,8 @@ numberOf cause.ArcMissing = 15
 numberOf cause.ExchangeLength = 16
 numberOf cause.PlanEnd = 17
 numberOf cause.WeeksOrMachine = 18
+numberOf cause.RecordGrade = 19
+numberOf cause.AltruistTakes = 20
 
 -- how a call ends: with what it gives back of accepted input, or with the number and the spot of the first cause met
 pub data Outcome (A : Type 0) : Type 0 where

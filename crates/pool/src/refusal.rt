@@ -6,7 +6,7 @@ pub enum Cause {
     PoolLength,
     PoolSize,
     RecordKind,
-    RecordField,
+    RecordClass,
     AltruistAfterMember,
     PoolValue,
     Limit,
@@ -21,6 +21,8 @@ pub enum Cause {
     ExchangeLength,
     PlanEnd,
     WeeksOrMachine,
+    RecordGrade,
+    AltruistTakes,
 }
 
 impl Cause {
@@ -32,7 +34,7 @@ impl Cause {
             Cause::PoolLength => 1,
             Cause::PoolSize => 2,
             Cause::RecordKind => 3,
-            Cause::RecordField => 4,
+            Cause::RecordClass => 4,
             Cause::AltruistAfterMember => 5,
             Cause::PoolValue => 6,
             Cause::Limit => 7,
@@ -47,6 +49,8 @@ impl Cause {
             Cause::ExchangeLength => 16,
             Cause::PlanEnd => 17,
             Cause::WeeksOrMachine => 18,
+            Cause::RecordGrade => 19,
+            Cause::AltruistTakes => 20,
         }
     }
 }

@@ -1,40 +1,48 @@
 -- What holds of the records of a pool that pass their tests.
 use mathlib.Core.Bool.{not}
 use mathlib.Core.List.{List, [], _∷_, _++_, append-nil}
-use mathlib.Core.Logic.{_⊎_, _≢_}
+use mathlib.Core.Logic.{_⊎_}
 use mathlib.Core.Path.{_≡_}
 use Prim.Native.Nat.{ℕ, zero, suc, _≤_, _<_}
 use native.Mathlib.Omega.{arith}
-use lib.Dec.{T, eqb, leb, leb→le, T-not}
+use lib.Dec.{T, eqb, leb, eqb→eq, leb→le}
 use lib.ListN.{length, getD, take}
 use lib.Seq.{append-snoc}
 use Rattle.kep.specs.Lists.{Each, none, also}
 use Rattle.pool.specs.Causes.{Pass}
 use Rattle.pool.specs.Refusals.{Outcome, accepted}
-use Rattle.reading.specs.Records.{fieldsFit, weeksAndMachineFit, noneOf, fieldTests, recordsTested}
-use Rattle.reading.specs.Fields.{tellsHouse, tellsMember, weeksOf, machineOf}
-use Rattle.kep.proofs.Tests.{or-cases, implies-iff, and-left, and-right, eq→eqb}
+use Rattle.reading.specs.Records.{takesNothing, noneOf, fieldTests, recordsTested}
+use Rattle.reading.specs.Fields.{tellsHouse, tellsMember, classOf, gradeOf, leastOf, takenOf, weeksOf, machineOf}
+use Rattle.kep.proofs.Tests.{and-iff, or-cases, implies-iff, differ-iff}
 use Rattle.pool.proofs.Tested.{all-held}
 
 -- a record behind those before it meets no cause
 pub record Passes (before : List (List ℕ)) (r : List ℕ) : Type 0 where
   pub kind : T (tellsHouse r) ⊎ T (tellsMember r)
-  pub fits : T (fieldsFit r)
+  pub class : classOf r ≤ 31
+  pub grades : (gradeOf r ≤ 100) × (leastOf r ≤ 100)
+  pub takes-nothing : T (tellsHouse r) → (leastOf r ≡ 0) × (takenOf r ≡ 0)
   pub in-turn : T (tellsHouse r) → T (noneOf tellsMember before)
   pub weeks : weeksOf r ≤ 999
   pub machine : 0 < machineOf r
 
 passes : {before : List (List ℕ)} {r : List ℕ} → Each Pass (fieldTests before r) → Passes before r
-unfolding fieldTests weeksAndMachineFit
-passes {before} {r} (also k (also f (also t (also w none)))) = record {
-  kind = or-cases (tellsHouse r) (tellsMember r) k;
-  fits = f;
-  in-turn = implies-iff (tellsHouse r) (noneOf tellsMember before) .0 t;
-  weeks = leb→le (weeksOf r) 999 (and-left (leb (weeksOf r) 999) (not (eqb (machineOf r) 0)) w);
-  machine =
-      let n : machineOf r ≢ 0 = λ z. T-not (eqb (machineOf r) 0) (and-right (leb (weeksOf r) 999) (not (eqb (machineOf r) 0)) w) (eq→eqb (machineOf r) 0 z) in
-      omega arith;
-}
+unfolding fieldTests
+passes {before} {r} (also k (also c (also g (also n (also t (also w none)))))) =
+    let (high, least) = and-iff (leb (gradeOf r) 100) (leb (leastOf r) 100) .0 g in
+    let (weeks, machine) = and-iff (leb (weeksOf r) 999) (not (eqb (machineOf r) 0)) .0 w in
+    record {
+      kind = or-cases (tellsHouse r) (tellsMember r) k;
+      class = leb→le (classOf r) 31 c;
+      grades = (leb→le (gradeOf r) 100 high, leb→le (leastOf r) 100 least);
+      takes-nothing =
+          λ h.
+          let (no-least, none-taken) = and-iff (eqb (leastOf r) 0) (eqb (takenOf r) 0) .0 (implies-iff (tellsHouse r) (takesNothing r) .0 n h) in
+          (eqb→eq (leastOf r) 0 no-least, eqb→eq (takenOf r) 0 none-taken);
+      in-turn = implies-iff (tellsHouse r) (noneOf tellsMember before) .0 t;
+      weeks = leb→le (weeksOf r) 999 weeks;
+      machine = let other = differ-iff (machineOf r) 0 .0 machine in omega arith;
+    }
 
 module _ {A : Type 0} {a : A} (o : Outcome A) where
   -- the first of them, and the rest behind it

@@ -1,20 +1,20 @@
 -- One record as code reads it: its kind, and its causes in their order.
 use mathlib.Core.Bool.{Bool, true, false, not, _&&_, _||_, and-true, and-false}
 use mathlib.Core.List.{List, [], _∷_, _++_}
-use mathlib.Core.Logic.{_↔_, ⊎-elim, _≢_}
+use mathlib.Core.Logic.{⊎-elim, _≢_}
 use mathlib.Core.Path.{_≡_, refl, sym, ap, _∙_}
 use Prim.Native.Nat.{ℕ, _+_}
 use native.Mathlib.Omega.{arith}
-use lib.Dec.{T, eqb, T-not, not-T}
+use lib.Dec.{T, eqb}
 use lib.ListN.{length}
 use borrow.Author.Tests.{eq-eqb, ne-eqb}
-use Rattle.kep.specs.Lists.{keep, none, also}
+use Rattle.kep.specs.Lists.{keep}
 use Rattle.pool.specs.Refusals.{Outcome, accepted, refused, tested}
-use Rattle.reading.specs.Records.{fieldsFit, weeksAndMachineFit, noneOf, fieldTests}
+use Rattle.reading.specs.Records.{classFits, gradesFit, takesNothing, weeksAndMachineFit, noneOf, fieldTests}
 use Rattle.reading.specs.Fields.{recordKind, tellsHouse, tellsMember}
-use Rattle.kep.proofs.Tests.{passes?, implies-iff, or-cases, and-left, and-right, and-both, from-false}
+use Rattle.kep.proofs.Tests.{or-cases, from-false}
 use Rattle.kep.proofs.Each.{keep-yes, keep-no, keep-more}
-use Rattle.pool.proofs.Tested.{all-pass, first-fails}
+use Rattle.pool.proofs.Tested.{passes, fails}
 
 -- a member's record is no house's
 pub other-kind : (r : List ℕ) → recordKind r ≡ 77 → tellsHouse r ≡ false
@@ -55,45 +55,18 @@ module _ (before : List (List ℕ)) (r : List ℕ) where
   unfolding fieldTests
   kind-unknown h m =
       sym
-      (first-fails (length before) (accepted (tellsMember r)) [] 3 _ _ none
+      (fails 3 _ _ (length before) (accepted (tellsMember r))
       (λ t. ⊎-elim (from-false (ne-eqb (recordKind r) 72 h)) (from-false (ne-eqb (recordKind r) 77 m)) (or-cases (tellsHouse r) (tellsMember r) t)))
 
-  module _ {house : Bool} (kind : KindIs r house) where
-    known : T (tellsHouse r || tellsMember r)
-    known = rw (← kind .is-house, ← kind .is-member) (one house)
-      where
-        one : (b : Bool) → T (b || not b)
-        one true = tt
-        one false = tt
-
-    pub field-out : (T (fieldsFit r) → ⊥) → refused 4 (length before) ≡ here
-    unfolding fieldTests
-    field-out n = sym (first-fails (length before) (accepted (tellsMember r)) (_ ∷ []) 4 _ _ (also known none) n)
-
-    module _ (fits : T (fieldsFit r)) {after late : Bool} (met : after ≡ not (noneOf tellsMember before)) (both : late ≡ (house && after)) where
-      order : T (not (tellsHouse r) || noneOf tellsMember before) ↔ (T house → T (noneOf tellsMember before))
-      order = rw (kind .is-house) (implies-iff (tellsHouse r) (noneOf tellsMember before))
-
-      pub too-late : T late → refused 5 (length before) ≡ here
-      unfolding fieldTests
-      too-late l =
-          sym
-          (first-fails (length before) (accepted (tellsMember r)) (_ ∷ _ ∷ []) 5 _ _ (also known (also fits none))
-          (λ t. T-not (noneOf tellsMember before) (rw met at (and-right house after (rw both at l))) (order .0 t (and-left house after (rw both at l)))))
-
-      module _ (in-turn : T late → ⊥) where
-        turn : T (not (tellsHouse r) || noneOf tellsMember before)
-        turn = order .1 before-any
-          where
-            before-any : T house → T (noneOf tellsMember before)
-            before-any h = ⊎-elim (λ t. t) (λ n. absurd (in-turn (rw both (and-both house after h (rw met (not-T (noneOf tellsMember before) n)))))) (passes? (noneOf tellsMember before))
-
-        pub weeks-or-machine-out : (T (weeksAndMachineFit r) → ⊥) → refused 18 (length before) ≡ here
-        unfolding fieldTests
-        weeks-or-machine-out n = sym (first-fails (length before) (accepted (tellsMember r)) (_ ∷ _ ∷ _ ∷ []) 18 _ _ (also known (also fits (also turn none))) n)
-
-        pub record-read : T (weeksAndMachineFit r) → {member : Bool} → member ≡ not house → accepted member ≡ here
-        unfolding fieldTests
-        record-read w e =
-            ap (λ b. accepted b) (e ∙ kind .is-member)
-            ∙ sym (all-pass (length before) (accepted (tellsMember r)) (also known (also fits (also turn (also w none)))))
+  -- the outcome of a record of known kind, by what code found of its tests
+  pub tests-found : {house grades nothing first weeks : Bool} {o : Outcome Bool} → KindIs r house → grades ≡ gradesFit r → nothing ≡ takesNothing r
+      → first ≡ noneOf tellsMember before → weeks ≡ weeksAndMachineFit r
+      → o ≡ tested ((4, classFits r) ∷ (19, grades) ∷ (20, not house || nothing) ∷ (5, not house || first) ∷ (18, weeks) ∷ []) (length before) (accepted (not house))
+      → o ≡ here
+  unfolding fieldTests
+  tests-found {house} kind g n f w e =
+      e ∙ rw (g, n, f, w, ← kind .is-house, ← kind .is-member) (sym (passes 3 (house || not house) _ (length before) (accepted (not house)) (one house)))
+    where
+      one : (b : Bool) → T (b || not b)
+      one true = tt
+      one false = tt

@@ -1,5 +1,5 @@
 -- The loop that tests the records of a pool one by one and counts the houses.
-use mathlib.Core.Bool.{Bool, true, false, not, _&&_, _||_, or-false, or-true}
+use mathlib.Core.Bool.{Bool, true, false, not, _&&_, _||_, and-true, and-false}
 use mathlib.Core.List.{List, [], _∷_, _++_}
 use mathlib.Core.Logic.{⊎-elim}
 use mathlib.Core.Path.{_≡_, refl, sym, ap, ap₂, _∙_}
@@ -31,31 +31,31 @@ module _ (bytes : List ℕ) where
   whole = recordsTested [] (poolRecords bytes) (accepted (houses (poolRecords bytes)))
 
   -- records 0 to i - 1 met no cause, and so many of them are houses'; the test of the rest is the test of the whole
-  pub record Scanning (afterMember : Bool) (count i : ℕ) : Type 0 where
+  pub record Scanning (housesOnly : Bool) (count i : ℕ) : Type 0 where
     pub within : i ≤ length bytes / recordWidth
     pub few : count ≤ i
     pub counts : count ≡ houses (take i (poolRecords bytes))
-    pub members : afterMember ≡ not (noneOf tellsMember (take i (poolRecords bytes)))
+    pub members : housesOnly ≡ noneOf tellsMember (take i (poolRecords bytes))
     pub left : recordsTested (take i (poolRecords bytes)) (drop i (poolRecords bytes)) (accepted (houses (poolRecords bytes))) ≡ whole
 
   -- by whatever name code has the numbers
   pub scan-same : {a b : Bool} {m n i : ℕ} → m ≡ n → a ≡ b → Scanning b n i → Scanning a m i
   scan-same p q s = rw (p, q) s
 
-  pub scan-start : Scanning false 0 0
+  pub scan-start : Scanning true 0 0
   unfolding keep
   scan-start = record { within = omega arith; few = omega arith; counts = refl; members = refl; left = refl }
 
-  pub scan-end : {afterMember : Bool} {count i : ℕ} → length bytes / recordWidth ≤ i → Scanning afterMember count i → accepted count ≡ whole
+  pub scan-end : {housesOnly : Bool} {count i : ℕ} → length bytes / recordWidth ≤ i → Scanning housesOnly count i → accepted count ≡ whole
   unfolding recordsTested
-  scan-end {afterMember} {count} {i} l s =
+  scan-end {housesOnly} {count} {i} l s =
       let rs = poolRecords bytes in
       let all : length rs ≤ i = omega (arith, length-cut recordWidth (length bytes / recordWidth) bytes) in
       ap (λ k. accepted k) (s .counts ∙ ap houses (take-all i rs all))
       ∙ sym (ap (λ left. recordsTested (take i rs) left (accepted (houses rs))) (drop-of-length-le rs all))
       ∙ s .left
 
-  module _ {afterMember : Bool} {count i : ℕ} (h : i < length bytes / recordWidth) (s : Scanning afterMember count i) where
+  module _ {housesOnly : Bool} {count i : ℕ} (h : i < length bytes / recordWidth) (s : Scanning housesOnly count i) where
     abbrev before : List (List ℕ)
     before = take i (poolRecords bytes)
 
@@ -70,7 +70,7 @@ module _ (bytes : List ℕ) where
 
     -- as code learns the outcome of record i
     pub read-here : {e : RecordRead} (known : RecordRead) → e ≡ known
-        → ((b : List (List ℕ)) → afterMember ≡ not (noneOf tellsMember b)
+        → ((b : List (List ℕ)) → housesOnly ≡ noneOf tellsMember b
         → recordOutcome e (length b) ≡ here b (take (recordWidth * i + recordWidth - recordWidth * i) (drop (recordWidth * i) bytes)))
         → recordOutcome known (length before) ≡ here before r
     read-here known q f =
@@ -103,7 +103,7 @@ module _ (bytes : List ℕ) where
           sym (with-rest (tellsMember r) (fieldTests before r) (length before) (sym e) (accepted (tellsMember r))) ∙ sym e in
           cc
 
-      next : {count′ : ℕ} → count′ ≤ suc i → count′ ≡ houses (r ∷ []) + houses before → Scanning (afterMember || b) count′ (i + 1)
+      next : {count′ : ℕ} → count′ ≤ suc i → count′ ≡ houses (r ∷ []) + houses before → Scanning (housesOnly && not b) count′ (i + 1)
       unfolding later
       next few counts =
           rw (add-one i)
@@ -112,28 +112,23 @@ module _ (bytes : List ℕ) where
             few = few;
             counts = counts ∙ sym (ap houses more ∙ keep-more tellsHouse r before);
             members =
-                ap₂ (λ x y. x || y) (s .members) (sym kind)
-                ∙ sym (ap (λ rs. not (noneOf tellsMember rs)) more ∙ ap not (none-more tellsMember r before) ∙ not-and (noneOf tellsMember before) (tellsMember r));
+                ap₂ (λ x y. x && not y) (s .members) (sym kind)
+                ∙ sym (ap (λ rs. noneOf tellsMember rs) more ∙ none-more tellsMember r before);
             left = ap (λ b′. recordsTested b′ (drop (suc i) (poolRecords bytes)) (accepted (houses (poolRecords bytes)))) more ∙ goes;
           })
-        where
-          not-and : (a c : Bool) → not (a && not c) ≡ (not a || c)
-          not-and true true = refl
-          not-and true false = refl
-          not-and false c = refl
 
     -- it is a member's
-    pub scan-member : accepted true ≡ here before r → Scanning true count (i + 1)
+    pub scan-member : accepted true ≡ here before r → Scanning false count (i + 1)
     unfolding keep
     scan-member e =
         let house = ap length (keep-no tellsHouse r [] (other-kind r (eqb-true _ _ (kind e)))) in
-        scan-same refl (sym (or-true afterMember)) (next e (omega (arith, s .few)) (omega (arith, house, s .counts)))
+        scan-same refl (sym (and-false housesOnly)) (next e (omega (arith, s .few)) (omega (arith, house, s .counts)))
 
     -- it is a house's
-    pub scan-house : accepted false ≡ here before r → Scanning afterMember (count + 1) (i + 1)
+    pub scan-house : accepted false ≡ here before r → Scanning housesOnly (count + 1) (i + 1)
     unfolding keep fieldTests
     scan-house e =
         let known = held 3 (tellsHouse r || tellsMember r) _ (length before) (tellsMember r) (sym e) in
         let is-house = is-true _ (⊎-elim (λ t. t) (λ t. absurd (from-false (kind e) t)) (or-cases (tellsHouse r) (tellsMember r) known)) in
         let house = ap length (keep-yes tellsHouse r [] is-house) in
-        scan-same refl (sym (or-false afterMember)) (next e (omega (arith, s .few)) (omega (arith, house, s .counts)))
+        scan-same refl (sym (and-true housesOnly)) (next e (omega (arith, s .few)) (omega (arith, house, s .counts)))

@@ -1,4 +1,4 @@
--- Reading pool bytes: the causes 1 to 5 and 18, and the rule of arcs.
+-- Reading pool bytes: its causes in their order, and the rule of arcs.
 use mathlib.Core.Bool.{Bool, not, _&&_, _||_}
 use mathlib.Core.List.{List, [], _∷_, _++_}
 use Prim.Native.Nat.{ℕ, _/_, _%_, _≤_, _<_}
@@ -14,29 +14,40 @@ use Rattle.reading.specs.computed.Pool.{poolOf}
 
 -- ---- the causes of a record
 
--- class 0 to 31, grades 0 to 100; of a house the least grade and the classes taken are 0
-unfoldable pub fieldsFit : List ℕ → Bool
-fieldsFit r =
-    leb (classOf r) 31
-    && leb (gradeOf r) 100
-    && leb (leastOf r) 100
-    && (not (tellsHouse r) || eqb (leastOf r) 0 && eqb (takenOf r) 0)
+-- class 0 to 31
+abbrev pub classFits : List ℕ → Bool
+classFits r = leb (classOf r) 31
+
+-- both grades 0 to 100
+abbrev pub gradesFit : List ℕ → Bool
+gradesFit r = leb (gradeOf r) 100 && leb (leastOf r) 100
+
+-- no least grade and no class taken
+abbrev pub takesNothing : List ℕ → Bool
+takesNothing r = eqb (leastOf r) 0 && eqb (takenOf r) 0
 
 -- weeks 0 to 999, machine numbers from 1 on
-unfoldable pub weeksAndMachineFit : List ℕ → Bool
+abbrev pub weeksAndMachineFit : List ℕ → Bool
 weeksAndMachineFit r = leb (weeksOf r) 999 && not (eqb (machineOf r) 0)
 
 -- no record among them is such
 abbrev pub noneOf : (List ℕ → Bool) → List (List ℕ) → Bool
 noneOf p rs = eqb (length (keep p rs)) 0
 
--- the tests of a record behind the records before it, in the order of their numbers
--- 3: kind neither 72 nor 77; 4: class, a grade or classes taken outside their range; 5: house after a member; 18: weeks or machine number outside theirs
+-- the tests of a record behind the records before it, in their order, each under the cause that is met where it fails
 unfoldable pub fieldTests : List (List ℕ) → List ℕ → List (ℕ × Bool)
 fieldTests before r =
+    -- kind neither 72 nor 77
     (3, tellsHouse r || tellsMember r)
-    ∷ (4, fieldsFit r)
+    -- class above 31
+    ∷ (4, classFits r)
+    -- a grade or a least grade above 100
+    ∷ (19, gradesFit r)
+    -- a house with a least grade or a class taken
+    ∷ (20, not (tellsHouse r) || takesNothing r)
+    -- a house after a member
     ∷ (5, not (tellsHouse r) || noneOf tellsMember before)
+    -- weeks above 999 or machine number 0
     ∷ (18, weeksAndMachineFit r)
     ∷ []
 

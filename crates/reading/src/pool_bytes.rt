@@ -1,4 +1,4 @@
-// Reading pool bytes to a pool value: causes 1 to 5 and 18.
+// Reading pool bytes to a pool value.
 use crate::fields::PoolRecord;
 use crate::records::Scan;
 use crate::records::scan_records;

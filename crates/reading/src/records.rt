@@ -1,4 +1,4 @@
-// The records of a pool, tested one by one: causes 3 to 5 and 18.
+// The records of a pool, tested one by one.
 use crate::fields::PoolRecord;
 use crate::fields::machine;
 use crate::fields::taken;
@@ -6,12 +6,12 @@ use crate::fields::weeks;
 use pool::Cause;
 ghost use mathlib.Core.Path.{_≡_};
 ghost use mathlib.Core.Bool.{not};
-ghost use mathlib.Core.List.{List, []};
+ghost use mathlib.Core.List.{List, [], _∷_};
 ghost use Prim.Native.Nat.{ℕ, _/_, _≤_};
 ghost use lib.ListN.{length};
 ghost use Rattle.kep.specs.Lists.{keep};
 ghost use Rattle.pool.specs.Refusals.{accepted, tested};
-ghost use Rattle.reading.specs.Records.{fieldsFit, weeksAndMachineFit, fieldTests, noneOf, recordsTested};
+ghost use Rattle.reading.specs.Records.{gradesFit, takesNothing, weeksAndMachineFit, fieldTests, noneOf, recordsTested};
 ghost use Rattle.reading.specs.Fields.{recordWidth, mostRecords, tellsHouse, tellsMember, poolRecords};
 ghost use Rattle.reading.specs.inner.Reading.{recordOutcome, scanOutcome};
 
@@ -35,17 +35,17 @@ pub(crate) fn scan_records(bytes: &[u8]) -> Scan
 {
     let places = bytes.len() / PoolRecord::WIDTH;
     let mut houses: u8 = 0;
-    let mut after_member = false;
+    let mut houses_only = true;
     let mut i: usize = 0;
     while i < places {
         let at = PoolRecord::WIDTH * i;
-        let record = read_record(&bytes[at..at + PoolRecord::WIDTH], after_member);
+        let record = read_record(&bytes[at..at + PoolRecord::WIDTH], houses_only);
         match record {
             RecordRead::House => {
                 houses += 1;
             }
             RecordRead::Member => {
-                after_member = true;
+                houses_only = false;
             }
             RecordRead::Fault(cause) => {
                 return Scan::Refused(cause, i);
@@ -56,10 +56,10 @@ pub(crate) fn scan_records(bytes: &[u8]) -> Scan
     Scan::Houses(houses)
 }
 
-// One record: its tests in the order of their numbers. Of the records before it 5 asks whether a member is among them.
-fn read_record(bytes: &[u8], after_member: bool) -> RecordRead
+// One record: its kind, then all its other tests. Only a house has to pass those of 20 and 5; 5 asks whether only houses came before it.
+fn read_record(bytes: &[u8], houses_only: bool) -> RecordRead
     requires { ⌜ length (now bytes) ≡ recordWidth ⌝ }
-    ensures { λ r. ⌜ ((before : List (List ℕ)) → «after_member» ≡ not (noneOf tellsMember before) → recordOutcome r (length before) ≡ tested (fieldTests before (now (bytes .entry))) (length before) (accepted (tellsMember (now (bytes .entry))))) ⌝ }
+    ensures { λ r. ⌜ ((before : List (List ℕ)) → «houses_only» ≡ noneOf tellsMember before → recordOutcome r (length before) ≡ tested (fieldTests before (now (bytes .entry))) (length before) (accepted (tellsMember (now (bytes .entry))))) ⌝ }
 {
     let kind = bytes[PoolRecord::KIND];
     let house = match kind {
@@ -69,16 +69,45 @@ fn read_record(bytes: &[u8], after_member: bool) -> RecordRead
             return RecordRead::Fault(Cause::RecordKind);
         }
     };
-    let unfit = !fields_fit(bytes);
-    let late = house && after_member;
-    let weeks_or_machine_unfit = !weeks_and_machine_fit(bytes);
-    if unfit {
-        return RecordRead::Fault(Cause::RecordField);
+    let class = bytes[PoolRecord::CLASS] <= 31;
+    let grades = grades_fit(bytes);
+    let nothing_taken = !house | takes_nothing(bytes);
+    let in_turn = !house | houses_only;
+    let weeks_and_machine = weeks_and_machine_fit(bytes);
+    first_failed(
+        house,
+        class,
+        grades,
+        nothing_taken,
+        in_turn,
+        weeks_and_machine,
+    )
+}
+
+// The tests of a record of known kind in their order: the first that failed decides.
+fn first_failed(
+    house: bool,
+    class: bool,
+    grades: bool,
+    nothing_taken: bool,
+    in_turn: bool,
+    weeks_and_machine: bool,
+) -> RecordRead
+    ensures { λ r. ⌜ ((at : ℕ) → recordOutcome r at ≡ tested ((4, class) ∷ (19, grades) ∷ (20, «nothing_taken») ∷ (5, «in_turn») ∷ (18, «weeks_and_machine») ∷ []) at (accepted (not house))) ⌝ }
+{
+    if !class {
+        return RecordRead::Fault(Cause::RecordClass);
     }
-    if late {
+    if !grades {
+        return RecordRead::Fault(Cause::RecordGrade);
+    }
+    if !nothing_taken {
+        return RecordRead::Fault(Cause::AltruistTakes);
+    }
+    if !in_turn {
         return RecordRead::Fault(Cause::AltruistAfterMember);
     }
-    if weeks_or_machine_unfit {
+    if !weeks_and_machine {
         return RecordRead::Fault(Cause::WeeksOrMachine);
     }
     if house {
@@ -88,31 +117,20 @@ fn read_record(bytes: &[u8], after_member: bool) -> RecordRead
     }
 }
 
-// Is every field that 4 tests in its range?
-fn fields_fit(bytes: &[u8]) -> bool
+// Are both grades in their range?
+fn grades_fit(bytes: &[u8]) -> bool
     requires { ⌜ length (now bytes) ≡ recordWidth ⌝ }
-    ensures { λ r. ⌜ r ≡ fieldsFit (now (bytes .entry)) ⌝ }
+    ensures { λ r. ⌜ r ≡ gradesFit (now (bytes .entry)) ⌝ }
 {
-    if 31 < bytes[PoolRecord::CLASS] {
-        return false;
-    }
-    if 100 < bytes[PoolRecord::GRADE] {
-        return false;
-    }
-    let least = bytes[PoolRecord::LEAST];
-    if 100 < least {
-        return false;
-    }
-    let kind = bytes[PoolRecord::KIND];
-    match kind {
-        72 => {
-            if least != 0 {
-                return false;
-            }
-            taken(bytes) == 0
-        }
-        _ => true,
-    }
+    (bytes[PoolRecord::GRADE] <= 100) & (bytes[PoolRecord::LEAST] <= 100)
+}
+
+// Is there neither a least grade nor a class taken?
+fn takes_nothing(bytes: &[u8]) -> bool
+    requires { ⌜ length (now bytes) ≡ recordWidth ⌝ }
+    ensures { λ r. ⌜ r ≡ takesNothing (now (bytes .entry)) ⌝ }
+{
+    (bytes[PoolRecord::LEAST] == 0) & (taken(bytes) == 0)
 }
 
 // Is the time waited, and the machine's number, in its range?
@@ -120,8 +138,5 @@ fn weeks_and_machine_fit(bytes: &[u8]) -> bool
     requires { ⌜ length (now bytes) ≡ recordWidth ⌝ }
     ensures { λ r. ⌜ r ≡ weeksAndMachineFit (now (bytes .entry)) ⌝ }
 {
-    if 999 < weeks(bytes) {
-        return false;
-    }
-    machine(bytes) != 0
+    (weeks(bytes) <= 999) & (machine(bytes) != 0)
 }

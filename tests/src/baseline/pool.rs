@@ -34,10 +34,15 @@ fn test_record(record: &[u8], at: usize, houses: usize) -> Result<usize, Refusal
         MEMBER => false,
         _ => return refuse(3, at),
     };
-    let least = record[LEAST_GRADE];
-    let takes = least != 0 || classes_taken(record) != 0;
-    if record[CLASS] > 31 || record[GRADE] > 100 || least > 100 || house && takes {
+    if record[CLASS] > 31 {
         return refuse(4, at);
+    }
+    let least = record[LEAST_GRADE];
+    if record[GRADE].max(least) > 100 {
+        return refuse(19, at);
+    }
+    if house && u32::from(least) | classes_taken(record) != 0 {
+        return refuse(20, at);
     }
     if house && houses < at {
         return refuse(5, at);

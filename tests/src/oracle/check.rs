@@ -4,7 +4,7 @@ use super::exchange::Limits;
 use super::pool::{read, Pool};
 use crate::refusal::{refuse, Refusal};
 
-/// The checker: causes 1 to 5 and 18, then 7 and 11, "12 to 17 record by record",
+/// The checker: the causes of reading, then 7 and 11, "12 to 17 record by record",
 /// else the members served.
 pub fn check(bytes: &[u8], limits: Limits, plan: &[u8]) -> Result<usize, Refusal> {
     let pool = read(bytes)?;

@@ -156,7 +156,7 @@ pub fn clear_value(
     Ok(cleared(&pool, limits))
 }
 
-/// The causes clearing tests: 1 to 5 and 18, then 7, 8, 9 and 10.
+/// The causes clearing tests: those of reading, then 7, 8, 9 and 10.
 pub fn test_clearing(bytes: &[u8], limits: Limits, rooms: Rooms) -> Result<Pool, Refusal> {
     let pool = read(bytes)?;
     limits.test()?;

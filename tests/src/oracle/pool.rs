@@ -122,20 +122,38 @@ impl Record<'_> {
         (0..32).any(|class| self.takes(class))
     }
 
-    /// "another field outside its range", the ranges of a house being narrower.
-    fn field_outside_range(&self) -> bool {
-        let outside = self.class() > 31 || self.grade() > 100 || self.least_grade() > 100;
-        let house_takes = self.is_house() && (self.least_grade() != 0 || self.takes_any());
-        outside || house_takes
+    /// 3: "kind neither 72 nor 77".
+    fn kind_is_unknown(&self) -> bool {
+        !self.is_house() && !self.is_member()
     }
 
-    /// "Weeks exceed 999 or the machine number is zero", of houses and members alike.
+    /// "Number 4 keeps the class alone": "class of the machine given, 0 to 31".
+    fn class_is_outside_range(&self) -> bool {
+        self.class() > 31
+    }
+
+    /// "19 when a grade or a least grade exceeds 100", of houses and members alike.
+    fn grade_exceeds_100(&self) -> bool {
+        self.grade() > 100 || self.least_grade() > 100
+    }
+
+    /// "20 when a house has a least grade or a class taken."
+    fn is_house_that_takes(&self) -> bool {
+        self.is_house() && (self.least_grade() != 0 || self.takes_any())
+    }
+
+    /// 5: "house after a member", which need not be the record before.
+    fn is_house_after_member(&self, earlier: &[Record]) -> bool {
+        self.is_house() && earlier.iter().any(Record::is_member)
+    }
+
+    /// 18: "weeks exceed 999 or the machine number is zero", of houses and members alike.
     fn weeks_or_machine_wrong(&self) -> bool {
         self.weeks() > GREATEST_WEEKS || self.machine_number() == 0
     }
 }
 
-/// Reading pool bytes: the causes 1 to 5 and 18, else the pool as a value.
+/// Reading pool bytes: the first cause met, else the pool as a value.
 pub fn read(bytes: &[u8]) -> Result<Pool, Refusal> {
     if !bytes.len().is_multiple_of(RECORD) {
         return refuse(1, 0);
@@ -144,29 +162,27 @@ pub fn read(bytes: &[u8]) -> Result<Pool, Refusal> {
         return refuse(2, 0);
     }
     let records: Vec<Record> = bytes.chunks(RECORD).map(Record).collect();
-    for at in 0..records.len() {
-        test_record(&records, at)?;
+    for (at, record) in records.iter().enumerate() {
+        if let Some(number) = first_cause(&records[..at], record) {
+            return refuse(number, at);
+        }
     }
     Ok(value_of(&records))
 }
 
-/// "3 to 5 record by record", and 18 "tested in each record after 5, the spot being the
-/// record".
-fn test_record(records: &[Record], at: usize) -> Result<(), Refusal> {
-    let record = &records[at];
-    if !record.is_house() && !record.is_member() {
-        return refuse(3, at);
-    }
-    if record.field_outside_range() {
-        return refuse(4, at);
-    }
-    if record.is_house() && records[..at].iter().any(Record::is_member) {
-        return refuse(5, at);
-    }
-    if record.weeks_or_machine_wrong() {
-        return refuse(18, at);
-    }
-    Ok(())
+/// "3 to 5 record by record"; 19 and 20 "are tested in each record between 4 and 5, 20 after
+/// 19", and 18 "in each record after 5".
+fn first_cause(earlier: &[Record], record: &Record) -> Option<u64> {
+    let causes = [
+        (3, record.kind_is_unknown()),
+        (4, record.class_is_outside_range()),
+        (19, record.grade_exceeds_100()),
+        (20, record.is_house_that_takes()),
+        (5, record.is_house_after_member(earlier)),
+        (18, record.weeks_or_machine_wrong()),
+    ];
+    let (number, _) = causes.into_iter().find(|(_, met)| *met)?;
+    Some(number)
 }
 
 fn value_of(records: &[Record]) -> Pool {

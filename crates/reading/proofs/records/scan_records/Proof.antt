@@ -9,10 +9,10 @@ use Rattle.reading.proofs.records.scan_records.Statement.{statement}
 use Rattle.reading.proofs.records.scan_records.Tie as tie
 
 abbrev Inv-loop : tie.InvT-loop
-Inv-loop bytes places houses₀ after-member₀ i₀ houses after-member i = Scanning bytes after-member houses i
+Inv-loop bytes places houses₀ houses-only₀ i₀ houses houses-only i = Scanning bytes houses-only houses i
 
 abbrev μ-loop : tie.MeasureT-loop
-μ-loop bytes places houses₀ after-member₀ i₀ houses after-member i = length bytes / recordWidth - i
+μ-loop bytes places houses₀ houses-only₀ i₀ houses houses-only i = length bytes / recordWidth - i
 
 loop-holds : tie.Need-loop-holds Inv-loop μ-loop
 loop-holds c = scan-start _
