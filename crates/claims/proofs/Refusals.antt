@@ -9,7 +9,7 @@ use mathlib.Core.List.{List, [], _∷_}
 use mathlib.Core.Logic.{_↔_, _⊎_}
 use mathlib.Core.Path.{_≡_}
 use Prim.Native.Nat.{ℕ, _^_}
-use lib.ListN.{drop}
+use lib.ListN.{length, drop}
 use Rattle.pool.specs.declared.value.Pool.{Pool}
 use Rattle.pool.specs.declared.limits.Limits.{Limits}
 use Rattle.kep.specs.Lists.{Each, flat}
@@ -55,13 +55,13 @@ limits-refuses l = alone-refused l ((7, limitsFit l) ∷ []) 0
 -- ---- filling the exchange table: 6, 7, 8
 
 module _ (p : Pool) (l : Limits) (table : List ℕ) where
-  pub exchanges-refuses : {n at : ℕ} → (exchangesOutcome p l table ≡ refused n at) ↔ (FirstFails (exchangesTests p l table) n × (at ≡ 0))
+  pub exchanges-refuses : {n at : ℕ} → (exchangesOutcome p l table ≡ refused n at) ↔ (FirstFails (exchangesTests p l (length table)) n × (at ≡ 0))
   unfolding exchangesOutcome
-  exchanges-refuses = alone-refused (2 ^ p .size) (exchangesTests p l table) 0
+  exchanges-refuses = alone-refused (2 ^ p .size) (exchangesTests p l (length table)) 0
 
-  pub exchanges-accepts : {k : ℕ} → (exchangesOutcome p l table ≡ accepted k) ↔ (Each Pass (exchangesTests p l table) × (2 ^ p .size ≡ k))
+  pub exchanges-accepts : {k : ℕ} → (exchangesOutcome p l table ≡ accepted k) ↔ (Each Pass (exchangesTests p l (length table)) × (2 ^ p .size ≡ k))
   unfolding exchangesOutcome
-  exchanges-accepts = alone-accepted (2 ^ p .size) (exchangesTests p l table) 0
+  exchanges-accepts = alone-accepted (2 ^ p .size) (exchangesTests p l (length table)) 0
 
   pub exchanges-untouched : {n at : ℕ} → exchangesOutcome p l table ≡ refused n at → exchangesLeft p l table ≡ table
   unfolding exchangesLeft

@@ -20,7 +20,7 @@ use Rattle.kep.specs.computed.Table.{exchanges, endsAt, some, entry, marks, mar
 use Rattle.kep.specs.Plan.{insert, inOrder, kindOf, recordOf, recordsOf, recordForm}
 use Rattle.plans.specs.Check.{listed, verticesOf}
 use Rattle.clearing.specs.computed.Cleared.{planOf}
-use Rattle.report.specs.Text.{kindWord, digits, decimal, servedLine, refusedLine, placeText, placesText, recordLine, recordLines, planText, outcomeText, printed, wholeText, counted, textOf}
+use Rattle.report.specs.Text.{kindWord, digits, decimal, placeText, placesText, recordLine, recordLines, planText, outcomeText, printed, wholeText, counted, textOf}
 
 -- ---- the pools
 
@@ -143,6 +143,6 @@ unfolding
     all elem distinct keep upto total tabulate cut setOf has setWhere worthOf tested fieldTests recordsTested recordGives takersOf poolOf readPool
     concatMap remove arrangements walk lastOf isCycle isChain isExchange turnedBy turned headOf lowestFirst exchanges endsAt some entry marks markedParts
     greatestOf most best flat sublists before insert inOrder kindOf recordOf recordsOf recordForm plans better pick answer placed poolA valueA poolB valueB member plan bestServed entryOf
-    listed verticesOf kindWord digits decimal servedLine refusedLine placeText placesText recordLine recordLines planText outcomeText printed wholeText
+    listed verticesOf kindWord digits decimal placeText placesText recordLine recordLines planText outcomeText printed wholeText
 rows =
     (refl, refl, refl, refl, refl, refl, refl, refl, refl, refl, refl, refl, refl, refl, refl, refl, refl, refl, refl, refl, refl, refl, refl, refl, refl, refl, refl, refl, refl, refl, refl, refl, refl, refl, refl, refl)

@@ -67,7 +67,7 @@ module _ (p : Pool) (l : Limits) (table : List ℕ) {k : ℕ} (filled : exchange
   exchanges-tests : T (poolFits p) × (2 ^ p .size ≤ length table) × (2 ^ p .size ≡ k)
   unfolding exchangesOutcome
   exchanges-tests =
-      let (six, count) = alone-accepted (2 ^ p .size) (exchangesTests p l table) 0 .0 filled in
+      let (six, count) = alone-accepted (2 ^ p .size) (exchangesTests p l (length table)) 0 .0 filled in
       (each-first six, leb→le (2 ^ p .size) (length table) (each-first (each-rest (each-rest six))), count)
 
   pub exchanges-left : (k ≡ 2 ^ p .size) × ExchangeTable p l table (exchangesLeft p l table)

@@ -1,22 +1,24 @@
 -- The call: its tests in their order, and what it tells and leaves where one fails and where all pass.
-use mathlib.Core.List.{List}
-use mathlib.Core.Path.{_≡_, sym, ap}
+use mathlib.Core.Bool.{Bool}
+use mathlib.Core.List.{List, [], _∷_}
+use mathlib.Core.Path.{_≡_, sym, ap, _∙_}
 use Prim.Native.Nat.{ℕ, _*_, _^_, _≤_, _<_}
-use lib.Dec.{T, leb→le, le→leb}
+use lib.Dec.{T, leb, leb→le, le→leb}
 use lib.ListN.{length}
 use Rattle.pool.specs.declared.value.Pool.{Pool}
 use Rattle.pool.specs.declared.limits.Limits.{Limits}
-use Rattle.pool.specs.Limits.{limitsFit, testLimits}
+use Rattle.pool.specs.Limits.{limitsFit}
 use Rattle.reading.specs.Records.{readPool}
 use Rattle.pool.specs.Refusals.{Outcome, accepted, refused, tested, andThen}
-use Rattle.pool.specs.Value.{poolFits, testPool}
+use Rattle.pool.specs.Value.{poolFits}
 use Rattle.kep.specs.Lists.{none, also}
+use Rattle.exchanges.specs.ExchangesCall.{exchangesTests}
 use Rattle.clearing.specs.Clearing.{lentTests, clearTests, clearableValue, clearable}
 use Rattle.clearing.specs.computed.Cleared.{clearOutcome, exchangesCleared, bestCleared, planCleared}
 use Rattle.kep.proofs.Each.{each-first, each-rest}
-use Rattle.pool.proofs.Tested.{all-held, all-pass}
-use Rattle.pool.proofs.TestsInOrder.{refuses, alone, short}
-use Rattle.pool.specs.Causes.{FirstFails, here, later}
+use Rattle.pool.proofs.Tested.{all-held, all-pass, with-rest}
+use Rattle.pool.proofs.TestsInOrder.{refuses, short}
+use Rattle.pool.specs.Causes.{here, later}
 
 -- ---- 6 to 10
 
@@ -24,35 +26,25 @@ module _ (p : Pool) (l : Limits) (exchanges best plan : ℕ) where
   abbrev Told : Outcome Pool → Type 0
   Told o = o ≡ tested (lentTests p l exchanges best plan) 0 (accepted p)
 
-  -- the first that fails decides
-  met : {n : ℕ} → FirstFails (lentTests p l exchanges best plan) n → Told (refused n 0)
-  met r = refuses (lentTests p l exchanges best plan) 0 (accepted p) r
+  -- 9 and 10
+  abbrev others : List (ℕ × Bool)
+  others = (9, leb (2 ^ p .size) best) ∷ (10, leb (16 * p .size) plan) ∷ []
 
-  pub pool-refused : {n at : ℕ} → refused n at ≡ testPool p → Told (refused n at)
-  unfolding testPool
-  pool-refused e = alone p 6 (poolFits p) 0 e (λ f. met (here f))
+  -- they are made where those of the exchange table passed
+  pub behind : {o : Outcome Pool} → o ≡ tested (exchangesTests p l exchanges) 0 (accepted p) → Told (andThen o (λ _. tested others 0 (accepted p)))
+  unfolding tested
+  behind e = sym (with-rest p (exchangesTests p l exchanges) 0 (sym e) (tested others 0 (accepted p)))
 
-  module _ (fits : T (poolFits p)) where
-    pub limits-refused : {n at : ℕ} → refused n at ≡ testLimits l → Told (refused n at)
-    unfolding testLimits
-    limits-refused e = alone l 7 (limitsFit l) 0 e (λ f. met (later fits (here f)))
+  module _ (passed : accepted p ≡ tested (exchangesTests p l exchanges) 0 (accepted p)) where
+    pub best-short : best < 2 ^ p .size → Told (refused 9 0)
+    best-short s = refuses others 0 (accepted p) (here (short s)) ∙ behind passed
 
-    module _ (within : T (limitsFit l)) where
-      pub exchanges-short : exchanges < 2 ^ p .size → Told (refused 8 0)
-      exchanges-short s = met (later fits (later within (here (short s))))
+    module _ (best-long : 2 ^ p .size ≤ best) where
+      pub plan-short : plan < 16 * p .size → Told (refused 10 0)
+      plan-short s = refuses others 0 (accepted p) (later (le→leb _ _ best-long) (here (short s))) ∙ behind passed
 
-      module _ (exchanges-long : 2 ^ p .size ≤ exchanges) where
-        pub best-short : best < 2 ^ p .size → Told (refused 9 0)
-        best-short s = met (later fits (later within (later (le→leb _ _ exchanges-long) (here (short s)))))
-
-        module _ (best-long : 2 ^ p .size ≤ best) where
-          pub plan-short : plan < 16 * p .size → Told (refused 10 0)
-          plan-short s = met (later fits (later within (later (le→leb _ _ exchanges-long) (later (le→leb _ _ best-long) (here (short s))))))
-
-          pub passes-all : 16 * p .size ≤ plan → Told (accepted p)
-          passes-all plan-long =
-              sym (all-pass 0 (accepted p) {ts = lentTests p l exchanges best plan}
-              (also fits (also within (also (le→leb _ _ exchanges-long) (also (le→leb _ _ best-long) (also (le→leb _ _ plan-long) none))))))
+      pub passes-all : 16 * p .size ≤ plan → Told (accepted p)
+      passes-all plan-long = sym (all-pass 0 (accepted p) {ts = others} (also (le→leb _ _ best-long) (also (le→leb _ _ plan-long) none))) ∙ behind passed
 
 module _ (p : Pool) (l : Limits) (exchanges best plan : List ℕ) where
   -- what passing says

@@ -24,7 +24,7 @@ use Rattle.clearing.specs.inner.Taking.{TablesHold}
 use Rattle.kep.proofs.Tables.{getD-tabulate, tabulate-below, written-front}
 use Rattle.kep.proofs.Parts.{part-le}
 use Rattle.kep.proofs.BestTable.{best-attained, best-bound}
-use Rattle.exchanges.proofs.ExchangesCall.{accepted-all as exchanges-accepted}
+use Rattle.exchanges.proofs.ExchangesCall.{passes-all as exchanges-pass, leaves as exchanges-leave}
 use Rattle.tables.proofs.BestCall.{accepted-all as best-accepted}
 use Rattle.kep.proofs.Answer.{answer-best}
 use Rattle.kep.proofs.BestPlan.{best-count}
@@ -49,7 +49,7 @@ module _ (p : Pool) (l : Limits) (fits : T (poolFits p)) where
   -- ---- the exchange table: none of 6 to 8 is met
 
   pub exchanges-filled : (table : List ℕ) {left : List ℕ} → T (limitsFit l) → 2 ^ p .size ≤ length table → left ≡ exchangesLeft p l table → left ≡ exchangesOf p l table
-  exchanges-filled table within long e = e ∙ sym (exchanges-accepted p l table fits within long .1)
+  exchanges-filled table within long e = e ∙ sym (exchanges-leave p l table (exchanges-pass p l (length table) fits within long) .1)
 
   -- ---- the best table over it: none of 6, 8 and 9 is met
 

@@ -1,15 +1,14 @@
 -- Clearing: what its answer stands for, and what is accepted.
 use mathlib.Core.Bool.{Bool}
-use mathlib.Core.List.{List, [], _∷_}
+use mathlib.Core.List.{List, [], _∷_, _++_}
 use Prim.Native.Nat.{ℕ, _*_, _^_}
 use lib.Dec.{leb}
 use lib.ListN.{length}
 use Rattle.pool.specs.declared.value.Pool.{Pool}
 use Rattle.pool.specs.declared.limits.Limits.{Limits}
-use Rattle.pool.specs.Limits.{limitsFit}
 use Rattle.reading.specs.Records.{readPool}
 use Rattle.pool.specs.Refusals.{numberOf, Outcome, accepted, refused, tested, andThen}
-use Rattle.pool.specs.Value.{poolFits}
+use Rattle.exchanges.specs.ExchangesCall.{exchangesTests}
 use Rattle.clearing.specs.declared.clearing.Cleared.{Cleared}
 use Rattle.clearing.specs.declared.clearing.Cleared.the-variants as cleared
 
@@ -20,11 +19,10 @@ clearedOutcome (cleared.Refused r) = refused (numberOf (r .cause)) (r .at)
 
 -- ---- what is accepted
 
--- 6: a pool value that does not fit; 7: a limit above 14; 8, 9: a table under 2 to the n entries; 10: a plan buffer under 16 × n bytes;
--- by the lengths of what is lent
+-- 6, 7 and 8 as for the exchange table; 9: a best table under 2 to the n entries; 10: a plan buffer under 16 × n bytes; by the lengths of what is lent
 abbrev pub lentTests : Pool → Limits → ℕ → ℕ → ℕ → List (ℕ × Bool)
 lentTests p l exchanges best plan =
-    (6, poolFits p) ∷ (7, limitsFit l) ∷ (8, leb (2 ^ p .size) exchanges) ∷ (9, leb (2 ^ p .size) best) ∷ (10, leb (16 * p .size) plan) ∷ []
+    exchangesTests p l exchanges ++ (9, leb (2 ^ p .size) best) ∷ (10, leb (16 * p .size) plan) ∷ []
 
 -- by the memory itself
 abbrev pub clearTests : Pool → Limits → List ℕ → List ℕ → List ℕ → List (ℕ × Bool)

@@ -1,6 +1,7 @@
 // Clearing: pool bytes, limits, both tables and a plan buffer; the plan is the first of the legal plans that serve most.
 use crate::choosing::write_plan;
 use exchanges::fill_exchanges;
+use exchanges::test_exchanges;
 use pool::Cause;
 use pool::Limits;
 use pool::Pool;
@@ -89,29 +90,20 @@ fn clear_accepted(
 fn test_lent(pool: Pool, limits: Limits, exchanges: usize, best: usize, plan: usize) -> Verdict
     ensures { λ r. ⌜ outcomeOf r pool ≡ tested (lentTests pool limits exchanges best plan) 0 (accepted pool) ⌝ }
 {
-    let pool_verdict = pool.test();
-    if let Verdict::Refused(refusal) = pool_verdict {
-        return Verdict::Refused(refusal);
-    }
-    let limits_verdict = limits.test();
-    if let Verdict::Refused(refusal) = limits_verdict {
+    let verdict = test_exchanges(pool, limits, exchanges);
+    if let Verdict::Refused(refusal) = verdict {
         return Verdict::Refused(refusal);
     }
     let size = pool.size;
     let entries = 1usize << size;
-    if exchanges < entries {
-        return Verdict::Refused(Refusal {
-            cause: Cause::ExchangeTable,
-            at: 0,
-        });
-    }
+    let bytes = 16 * (size as usize);
     if best < entries {
         return Verdict::Refused(Refusal {
             cause: Cause::BestTable,
             at: 0,
         });
     }
-    if plan < 16 * (size as usize) {
+    if plan < bytes {
         return Verdict::Refused(Refusal {
             cause: Cause::PlanBuffer,
             at: 0,

@@ -12,13 +12,13 @@ use Rattle.pool.specs.Limits.{limitsFit}
 use Rattle.pool.specs.Refusals.{Outcome, accepted, tested, leftBy}
 use Rattle.pool.specs.Value.{graphOf, poolFits}
 
--- 6: a pool value that does not fit; 7: a limit above 14; 8: a table under 2 to the n entries
-abbrev pub exchangesTests : Pool → Limits → List ℕ → List (ℕ × Bool)
-exchangesTests p l table = (6, poolFits p) ∷ (7, limitsFit l) ∷ (8, leb (2 ^ p .size) (length table)) ∷ []
+-- 6: a pool value that does not fit; 7: a limit above 14; 8: a table under 2 to the n entries; by its length
+abbrev pub exchangesTests : Pool → Limits → ℕ → List (ℕ × Bool)
+exchangesTests p l table = (6, poolFits p) ∷ (7, limitsFit l) ∷ (8, leb (2 ^ p .size) table) ∷ []
 
 -- the entries written
 unfoldable pub exchangesOutcome : Pool → Limits → List ℕ → Outcome ℕ
-exchangesOutcome p l table = tested (exchangesTests p l table) 0 (accepted (2 ^ p .size))
+exchangesOutcome p l table = tested (exchangesTests p l (length table)) 0 (accepted (2 ^ p .size))
 
 -- every set's entry
 unfoldable pub exchangesLeft : Pool → Limits → List ℕ → List ℕ

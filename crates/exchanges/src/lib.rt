@@ -5,3 +5,4 @@ mod exchanges;
 mod path_ends;
 
 pub use exchanges::fill_exchanges;
+pub use exchanges::test_exchanges;

@@ -57,11 +57,11 @@ decimal n = digits (suc n) n
 -- ---- lines
 
 -- `served S of M`
-unfoldable pub servedLine : ℕ → ℕ → List ℕ
+abbrev pub servedLine : ℕ → ℕ → List ℕ
 servedLine s m = (servedWord ++ decimal s) ++ (ofWord ++ decimal m) ++ lineFeed
 
 -- `refused N P`
-unfoldable pub refusedLine : ℕ → ℕ → List ℕ
+abbrev pub refusedLine : ℕ → ℕ → List ℕ
 refusedLine number at = (refusedWord ++ decimal number) ++ (space ++ decimal at) ++ lineFeed
 
 -- places in order, each after one space

@@ -9,7 +9,7 @@ ghost use lib.ListN.{length};
 ghost use Rattle.kep.specs.Lists.{cut};
 ghost use Rattle.pool.specs.Refusals.{numberOf};
 ghost use Rattle.plans.specs.Check.{listed};
-ghost use Rattle.report.specs.Text.{decimal, kindWord, placesText, recordLine, recordLines, servedLine, refusedLine};
+ghost use Rattle.report.specs.Text.{lineFeed, decimal, kindWord, placesText, recordLine, recordLines, servedLine, refusedLine};
 ghost use Rattle.report.specs.inner.Writing.{Adds};
 
 // A word and a number.
@@ -22,14 +22,31 @@ fn put_after(text: &mut [u8], at: usize, word: &[u8], n: usize) -> usize
     put_number(text, end, n)
 }
 
+// A line of two words, each with a number.
+fn put_numbers(text: &mut [u8], at: usize, word: &[u8], n: usize, next: &[u8], m: usize) -> usize
+    requires { ⌜ n < 1000 ⌝ }
+    requires { ⌜ m < 1000 ⌝ }
+    requires { ⌜ at + (length (now word) + 3 + (length (now next) + 3) + 1) ≤ length (now text) ⌝ }
+    ensures { λ r. ⌜ Adds (length (now (word .entry)) + 3 + (length (now (next .entry)) + 3) + 1) (now (text .entry)) (now (text .exit)) at r ((now (word .entry) ++ decimal n) ++ (now (next .entry) ++ decimal m) ++ lineFeed) ⌝ }
+{
+    let first = put_after(text, at, word, n);
+    let second = put_after(text, first, next, m);
+    put(text, second, b"\n")
+}
+
 // `served S of M`.
 pub(crate) fn put_served(text: &mut [u8], at: usize, served: u8, members: u8) -> usize
     requires { ⌜ at + 18 ≤ length (now text) ⌝ }
     ensures { λ r. ⌜ Adds 18 (now (text .entry)) (now (text .exit)) at r (servedLine served members) ⌝ }
 {
-    let count = put_after(text, at, b"served ", served as usize);
-    let all = put_after(text, count, b" of ", members as usize);
-    put(text, all, b"\n")
+    put_numbers(
+        text,
+        at,
+        b"served ",
+        served as usize,
+        b" of ",
+        members as usize,
+    )
 }
 
 // `refused N P`.
@@ -40,10 +57,7 @@ pub(crate) fn put_refused(text: &mut [u8], at: usize, refusal: Refusal) -> usize
 {
     let cause = refusal.cause;
     let number = cause.number() as usize;
-    let spot = refusal.at;
-    let first = put_after(text, at, b"refused ", number);
-    let second = put_after(text, first, b" ", spot);
-    put(text, second, b"\n")
+    put_numbers(text, at, b"refused ", number, b" ", refusal.at)
 }
 
 // One line for each of the records at the front of the plan.
