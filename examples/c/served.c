@@ -22,7 +22,7 @@ static const uint8_t pool[PLACES * RECORD] = {
 
 /* The room that six places need; the routine allocates nothing itself. */
 static uint16_t exchanges[1 << PLACES];
-static uint8_t best[1 << PLACES];
+static uint32_t best[1 << PLACES];
 static uint8_t plan[PLAN_RECORD * PLACES];
 
 static void print_record(const uint8_t *record)

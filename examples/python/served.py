@@ -58,7 +58,7 @@ def clear(library, pool, lc, lp):
     # A pool of more than 14 records is refused by 2 before its room matters.
     places = min(len(pool) // RECORD, 14)
     exchanges = (ctypes.c_uint16 * (1 << places))()
-    best = (ctypes.c_uint8 * (1 << places))()
+    best = (ctypes.c_uint32 * (1 << places))()
     plan = (ctypes.c_uint8 * (PLAN_RECORD * places))()
     answer = library.swap_clear(
         pool, len(pool), lc, lp, exchanges, len(exchanges), best, len(best), plan, len(plan)

@@ -5,7 +5,7 @@
 use swapboard_tests::baseline::plan::{write_plan, Filled, Scratch};
 use swapboard_tests::baseline::tables::{fill_best, fill_exchanges};
 use swapboard_tests::bench_pools::{pools_of_fourteen, pools_of_six, BenchPool};
-use swapboard_tests::layout::MOST_PLACES;
+use swapboard_tests::layout::{GREATEST_WEEKS, MOST_PLACES};
 use swapboard_tests::oracle::exchange::Limits;
 use swapboard_tests::oracle::plan::record_form;
 use swapboard_tests::oracle::pool::Pool;
@@ -17,7 +17,7 @@ use swapboard_tests::timing::{print_heading, print_row};
 
 const ENTRIES: usize = 1 << MOST_PLACES;
 
-/// The houses and the limits of each climb, and the arcs that it tries to change.
+/// The houses and the limits of each climb, and the changes that it tries.
 const CLIMBS: [(usize, u8, u8); 6] = [
     (0, 14, 14),
     (1, 14, 14),
@@ -33,11 +33,12 @@ extern "C" {
         places: u8,
         houses: u8,
         gives: *const u16,
+        weeks: *const u16,
         lc: u8,
         lp: u8,
         exchanges: *const u16,
         exchanges_len: usize,
-        best: *const u8,
+        best: *const u32,
         best_len: usize,
         plan: *mut u8,
         plan_len: usize,
@@ -49,8 +50,8 @@ struct Case {
     value: PoolValue,
     limits: Limits,
     exchanges: Vec<u16>,
-    worth: Vec<u8>,
-    best: Vec<u8>,
+    worth: Vec<u32>,
+    best: Vec<u32>,
 }
 
 impl Case {
@@ -80,13 +81,14 @@ impl Case {
 
     /// Returns the number of records.
     fn write_plan(&self, plan: &mut [u8]) -> usize {
-        // SAFETY: `gives` has 14 entries; the others are live slices, the plan lent alone. The
-        // call needs tables filled for the pool and the limits, and they are.
+        // SAFETY: `gives` and `weeks` have 14 entries each; the others are live slices, the plan
+        // lent alone. The call needs tables filled for the pool and the limits, and they are.
         unsafe {
             swap_write_plan(
                 self.value.places,
                 self.value.houses,
                 self.value.gives.as_ptr(),
+                self.value.weeks.as_ptr(),
                 self.limits.lc,
                 self.limits.lp,
                 self.exchanges.as_ptr(),
@@ -131,20 +133,29 @@ fn time_choice(name: &str, pool: &Pool, case: &Case) {
     );
 }
 
-/// Single arcs are changed while the search does not get shorter.
+/// One arc, or the weeks of one member.
+fn change(random: &mut Random, value: &mut PoolValue) {
+    let member = random.between(value.houses.into(), MOST_PLACES - 1);
+    if random.chance(70) {
+        value.gives[random.below(MOST_PLACES)] ^= 1 << member;
+    } else {
+        value.weeks[member] = random.between(0, GREATEST_WEEKS.into()) as u16;
+    }
+}
+
+/// Single arcs and weeks are changed while the search does not get shorter.
 fn climb(random: &mut Random, houses: usize, limits: Limits) -> Case {
     let percent = random.between(30, 95);
     let gives = random_arcs(random, MOST_PLACES, houses, percent, 0);
     let mut case = Case::new(&pool_with(MOST_PLACES, houses, gives), limits);
     let mut longest = case.search().entered;
     for _ in 0..STEPS {
-        let giver = random.below(MOST_PLACES);
-        let arc = 1 << random.between(houses, MOST_PLACES - 1);
-        case.value.gives[giver] ^= arc;
+        let before = case.value;
+        change(random, &mut case.value);
         case.fill();
         let entered = case.search().entered;
         if entered < longest {
-            case.value.gives[giver] ^= arc;
+            case.value = before;
         } else {
             longest = entered;
         }
@@ -153,8 +164,8 @@ fn climb(random: &mut Random, houses: usize, limits: Limits) -> Case {
     case
 }
 
-/// The same climbs on every machine. The arcs of the longest search are printed, to be
-/// kept among the pools where it is longer than theirs.
+/// The same climbs on every machine. The arcs and weeks of the longest search are printed, to
+/// be kept among the pools where it is longer than theirs.
 fn worst_by_climbing() {
     print_heading("Choice of the plan, 14 places, found by climbing");
     let mut climbed = Vec::new();

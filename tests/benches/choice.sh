@@ -38,24 +38,27 @@ pub extern "C" fn swap_write_plan(
     places: u8,
     houses: u8,
     gives: &[u16; 14],
+    weeks: &[u16; 14],
     lc: u8,
     lp: u8,
     exchanges: &[u16],
-    best: &[u8],
+    best: &[u32],
     plan: &mut [u8],
 ) -> usize
-    requires { ⌜ T (poolFits (poolFrom places houses (now gives))) ⌝ }
+    requires { ⌜ T (poolFits (poolFrom places houses (now gives) (now weeks))) ⌝ }
     requires { ⌜ T (limitsFit (limitsOf lc lp)) ⌝ }
-    requires { ⌜ TablesHold (poolFrom places houses (now gives)) (limitsOf lc lp) (now exchanges) (now best) ⌝ }
+    requires { ⌜ TablesHold (poolFrom places houses (now gives) (now weeks)) (limitsOf lc lp) (now exchanges) (now best) ⌝ }
     requires { ⌜ 16 * places ≤ length (now plan) ⌝ }
-    ensures records { λ r. ⌜ r ≡ length (planOf (poolFrom places houses (now (gives .entry))) (limitsOf lc lp)) ⌝ }
-    ensures written { λ _. ⌜ now (plan .exit) ≡ planWritten (poolFrom places houses (now (gives .entry))) (limitsOf lc lp) (now (plan .entry)) ⌝ }
+    ensures records { λ r. ⌜ r ≡ length (planOf (poolFrom places houses (now (gives .entry)) (now (weeks .entry))) (limitsOf lc lp)) ⌝ }
+    ensures written { λ _. ⌜ now (plan .exit) ≡ planWritten (poolFrom places houses (now (gives .entry)) (now (weeks .entry))) (limitsOf lc lp) (now (plan .entry)) ⌝ }
 {
     let sets = *gives;
+    let waited = *weeks;
     let value = Pool {
         size: places,
         altruists: houses,
         gives: sets,
+        weeks: waited,
     };
     let limits = Limits {
         cycle: lc,

@@ -18,7 +18,7 @@ const READ: usize = 6;
 /// Tables and plan of one side, enough for every pool.
 struct Buffers {
     exchanges: Vec<u16>,
-    best: Vec<u8>,
+    best: Vec<u32>,
     plan: Vec<u8>,
 }
 
@@ -94,13 +94,14 @@ fn reading(pools: &[BenchPool]) {
     for BenchPool { name, pool, .. } in pools {
         let bytes = bytes_of_pool(pool);
         let mut gives = [0; MOST_PLACES];
+        let mut weeks = [0; MOST_PLACES];
         let mut read = None;
         print_row(
             name,
-            || assert_eq!(calls::read_pool(&bytes, &mut gives).number, 0),
+            || assert_eq!(calls::read_pool(&bytes, &mut gives, &mut weeks).number, 0),
             || read = baseline::pool::read_pool(&bytes).ok(),
         );
-        let same = |value: PoolValue| value.gives == gives;
+        let same = |value: PoolValue| (value.gives, value.weeks) == (gives, weeks);
         assert!(read.is_some_and(same));
     }
 }

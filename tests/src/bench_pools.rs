@@ -1,5 +1,6 @@
 //! The pools of the benchmarks, each with the limits it is cleared at.
 
+use crate::layout::GREATEST_WEEKS;
 use crate::oracle::exchange::Limits;
 use crate::oracle::pool::{places_of, read, Pool};
 use crate::pools::{
@@ -10,18 +11,31 @@ use crate::samples::pool_with;
 
 type Arcs = Vec<Vec<usize>>;
 
+#[derive(Clone)]
 pub struct BenchPool {
     pub name: String,
     pub pool: Pool,
     pub limits: Limits,
 }
 
+/// Of weeks 0, so that only bytes decide between the plans that serve most.
 fn bench_pool(name: &str, houses: usize, gives: Arcs, lc: u8, lp: u8) -> BenchPool {
     BenchPool {
         name: format!("{name}, at {lc} {lp}"),
         pool: pool_with(gives.len(), houses, gives),
         limits: Limits::new(lc, lp),
     }
+}
+
+/// Each with weeks of its own, so that they decide too.
+fn that_wait(random: &mut Random, mut pools: Vec<BenchPool>) -> Vec<BenchPool> {
+    for BenchPool { name, pool, .. } in &mut pools {
+        let greatest = GREATEST_WEEKS.into();
+        let weeks = || random.between(0, greatest) as u16;
+        pool.weeks.fill_with(weeks);
+        *name += ", weeks";
+    }
+    pools
 }
 
 pub fn pools_of_fourteen() -> Vec<BenchPool> {
@@ -34,6 +48,7 @@ pub fn pools_of_fourteen() -> Vec<BenchPool> {
         long_rings(),
         chains(),
         long_searches(),
+        pools_that_wait(),
     ]
     .into_iter()
     .flatten()
@@ -138,7 +153,34 @@ fn long_searches() -> Vec<BenchPool> {
         bench_pool("last way is the one, 1 house", 1, last_way(), 14, 14),
         bench_pool("first place leads nowhere", 0, no_way_back(), 14, 14),
         bench_pool("worst found by climbing, 1 house", 1, climbed, 1, 9),
+        last_waited_longest(),
     ]
+}
+
+/// Complete, and each place waited longer than those below it: of all sets of nine members
+/// the highest nine are the ones, and every way through another comes first.
+fn last_waited_longest() -> BenchPool {
+    let name = "the last waited longest, 1 house";
+    let mut last = bench_pool(name, 1, all_arcs(14, 1, false), 0, 9);
+    last.pool.weeks = (0..14).collect();
+    last
+}
+
+/// Pools above in which not all are served, or in which many sets serve all.
+fn pools_that_wait() -> Vec<BenchPool> {
+    let random = &mut Random::new(6);
+    let mut arcs = |percent| random_arcs(random, 14, 2, percent, 0);
+    let pools = vec![
+        bench_pool("sparse, 15 of 100 arcs, 2 houses", 2, arcs(15), 3, 4),
+        bench_pool("medium, 35 of 100 arcs, 2 houses", 2, arcs(35), 2, 2),
+        bench_pool("dense, 60 of 100 arcs, 2 houses", 2, arcs(60), 3, 4),
+        bench_pool("only 4 houses give", 4, houses_give(14, 4), 3, 4),
+        bench_pool("complete, 1 house", 1, all_arcs(14, 1, false), 0, 6),
+        bench_pool("complete, 1 house", 1, all_arcs(14, 1, false), 2, 0),
+        bench_pool("complete, no house", 0, all_arcs(14, 0, false), 3, 0),
+        bench_pool("complete, no house", 0, all_arcs(14, 0, false), 14, 14),
+    ];
+    [that_wait(random, pools), that_wait(random, shops())].concat()
 }
 
 /// Complete, but the highest place takes from the house alone: the one chain through
@@ -164,7 +206,7 @@ fn no_way_back() -> Arcs {
 pub fn pools_of_six() -> Vec<BenchPool> {
     let random = &mut Random::new(4);
     let mut arcs = |houses, percent| random_arcs(random, 6, houses, percent, 0);
-    vec![
+    let mut pools = vec![
         bench_pool("sparse, 20 of 100 arcs, 1 house", 1, arcs(1, 20), 3, 4),
         bench_pool("medium, 40 of 100 arcs, 1 house", 1, arcs(1, 40), 6, 6),
         bench_pool("dense, 70 of 100 arcs, no house", 0, arcs(0, 70), 3, 0),
@@ -178,7 +220,14 @@ pub fn pools_of_six() -> Vec<BenchPool> {
         bench_pool("one ring of 6", 0, one_ring(6, 0), 6, 6),
         bench_pool("one ring of 6", 0, one_ring(6, 0), 5, 5),
         bench_pool("1 house, path of 5", 1, path(6), 0, 5),
-    ]
+    ];
+    let waiting = vec![
+        bench_pool("dense, 70 of 100 arcs, 1 house", 1, arcs(1, 70), 2, 2),
+        bench_pool("complete, 1 house", 1, all_arcs(6, 1, false), 0, 3),
+        bench_pool("complete, 1 house", 1, all_arcs(6, 1, false), 2, 0),
+    ];
+    pools.extend(that_wait(random, waiting));
+    pools
 }
 
 /// A house and members in a row.

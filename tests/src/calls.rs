@@ -37,12 +37,14 @@ impl Answer {
 }
 
 extern "C" {
-    fn swap_read_pool(pool: *const u8, pool_len: usize, gives: *mut u16) -> Answer;
+    fn swap_read_pool(pool: *const u8, pool_len: usize, gives: *mut u16, weeks: *mut u16)
+        -> Answer;
 
     fn swap_fill_exchanges(
         places: u8,
         houses: u8,
         gives: *const u16,
+        weeks: *const u16,
         lc: u8,
         lp: u8,
         table: *mut u16,
@@ -53,9 +55,10 @@ extern "C" {
         places: u8,
         houses: u8,
         gives: *const u16,
+        weeks: *const u16,
         exchanges: *const u16,
         exchanges_len: usize,
-        best: *mut u8,
+        best: *mut u32,
         best_len: usize,
     ) -> Answer;
 
@@ -66,7 +69,7 @@ extern "C" {
         lp: u8,
         exchanges: *mut u16,
         exchanges_len: usize,
-        best: *mut u8,
+        best: *mut u32,
         best_len: usize,
         plan: *mut u8,
         plan_len: usize,
@@ -82,18 +85,31 @@ extern "C" {
     ) -> Answer;
 }
 
-pub fn read_pool(pool: &[u8], gives: &mut [u16; MOST_PLACES]) -> Answer {
-    // SAFETY: pointer and length are those of a live slice, and `gives` has 14 entries.
-    unsafe { swap_read_pool(pool.as_ptr(), pool.len(), gives.as_mut_ptr()) }
+pub fn read_pool(
+    pool: &[u8],
+    gives: &mut [u16; MOST_PLACES],
+    weeks: &mut [u16; MOST_PLACES],
+) -> Answer {
+    // SAFETY: pointer and length are those of a live slice; `gives` and `weeks` have 14
+    // entries each and are lent alone.
+    unsafe {
+        swap_read_pool(
+            pool.as_ptr(),
+            pool.len(),
+            gives.as_mut_ptr(),
+            weeks.as_mut_ptr(),
+        )
+    }
 }
 
 pub fn fill_exchanges(pool: &PoolValue, limits: Limits, table: &mut [u16]) -> Answer {
-    // SAFETY: `gives` has 14 entries; the table is a live slice lent alone.
+    // SAFETY: `gives` and `weeks` have 14 entries each; the table is a live slice lent alone.
     unsafe {
         swap_fill_exchanges(
             pool.places,
             pool.houses,
             pool.gives.as_ptr(),
+            pool.weeks.as_ptr(),
             limits.lc,
             limits.lp,
             table.as_mut_ptr(),
@@ -102,13 +118,15 @@ pub fn fill_exchanges(pool: &PoolValue, limits: Limits, table: &mut [u16]) -> An
     }
 }
 
-pub fn fill_best(pool: &PoolValue, exchanges: &[u16], best: &mut [u8]) -> Answer {
-    // SAFETY: `gives` has 14 entries; both tables are live slices, `best` lent alone.
+pub fn fill_best(pool: &PoolValue, exchanges: &[u16], best: &mut [u32]) -> Answer {
+    // SAFETY: `gives` and `weeks` have 14 entries each; both tables are live slices, `best`
+    // lent alone.
     unsafe {
         swap_fill_best(
             pool.places,
             pool.houses,
             pool.gives.as_ptr(),
+            pool.weeks.as_ptr(),
             exchanges.as_ptr(),
             exchanges.len(),
             best.as_mut_ptr(),
@@ -121,7 +139,7 @@ pub fn clear(
     pool: &[u8],
     limits: Limits,
     exchanges: &mut [u16],
-    best: &mut [u8],
+    best: &mut [u32],
     plan: &mut [u8],
 ) -> Answer {
     // SAFETY: all are live slices, the tables and the plan lent alone.

@@ -1,6 +1,7 @@
 //! Second methods for pools too large for the brute force.
 
 use crate::oracle::exchange::{is_exchange, Limits};
+use crate::oracle::held::Held;
 use crate::oracle::plan::{Cleared, Plan};
 use crate::oracle::pool::{places_of, set_number, Pool};
 use std::collections::HashSet;
@@ -86,10 +87,19 @@ fn reached(pool: &Pool, first: usize, between: Vec<usize>, end: usize) -> bool {
     })
 }
 
-/// The best table by deciding for each set what its lowest place is in: nothing,
-/// or one of the marked sets that hold it.
-pub fn best_by_lowest_place(pool: &Pool, exchanges: &[u16]) -> Vec<u8> {
-    let mut best = vec![0; 1 << pool.places];
+/// The best table's entries by the second method.
+pub fn best_by_lowest_place(pool: &Pool, exchanges: &[u16]) -> Vec<u32> {
+    let most = most_held(pool, exchanges);
+    most.into_iter().map(Held::entry).collect()
+}
+
+/// The most that marked sets inside each set hold, by deciding what the lowest place of the
+/// set is in: nothing, or one of the marked sets that hold it.
+fn most_held(pool: &Pool, exchanges: &[u16]) -> Vec<Held> {
+    let held: Vec<Held> = (0..1 << pool.places)
+        .map(|set| Held::by(pool, &places_of(set)))
+        .collect();
+    let mut best = vec![Held::default(); held.len()];
     for set in 1..best.len() {
         let others = set & (set - 1);
         let lowest = set ^ others;
@@ -97,8 +107,7 @@ pub fn best_by_lowest_place(pool: &Pool, exchanges: &[u16]) -> Vec<u8> {
         for part in parts_of(others) {
             let chosen = part | lowest;
             if exchanges[chosen] != 0 {
-                let members = (chosen >> pool.houses).count_ones() as u8;
-                most = most.max(members + best[set ^ chosen]);
+                most = most.max(held[chosen] + best[set ^ chosen]);
             }
         }
         best[set] = most;
@@ -115,17 +124,19 @@ fn parts_of(set: usize) -> impl Iterator<Item = usize> {
 /// What clearing leaves, by the second methods.
 pub fn cleared(pool: &Pool, limits: Limits) -> Cleared {
     let exchanges = exchanges_by_paths(pool, limits);
-    let best = best_by_lowest_place(pool, &exchanges);
+    let best = most_held(pool, &exchanges);
     let plan = first_plan(pool, limits, &best);
+    let best = best.into_iter().map(Held::entry).collect();
     Cleared::new(pool, &plan, exchanges, best)
 }
 
 /// The first of the best plans by trying records in the order of their bytes,
-/// each kept if the most can still be served behind it.
-fn first_plan(pool: &Pool, limits: Limits, best: &[u8]) -> Plan {
+/// each kept if the most members, and of them the most weeks, can still be served with it
+/// and behind it.
+fn first_plan(pool: &Pool, limits: Limits, best: &[Held]) -> Plan {
     let mut plan = Plan::new();
     let mut free = best.len() - 1;
-    while best[free] > 0 {
+    while best[free].members > 0 {
         let exchange = first_exchange(pool, limits, best, free);
         free = free_behind(free, &exchange);
         plan.push(exchange);
@@ -139,7 +150,7 @@ fn free_behind(free: usize, exchange: &[usize]) -> usize {
     above & !set_number(exchange)
 }
 
-fn first_exchange(pool: &Pool, limits: Limits, best: &[u8], free: usize) -> Vec<usize> {
+fn first_exchange(pool: &Pool, limits: Limits, best: &[Held], free: usize) -> Vec<usize> {
     for first in places_of(free) {
         let mut path = vec![first];
         if complete(pool, limits, best, free, &mut path, &mut HashSet::new()) {
@@ -154,14 +165,14 @@ fn first_exchange(pool: &Pool, limits: Limits, best: &[u8], free: usize) -> Vec<
 fn complete(
     pool: &Pool,
     limits: Limits,
-    best: &[u8],
+    best: &[Held],
     free: usize,
     path: &mut Vec<usize>,
     failed: &mut HashSet<(usize, usize)>,
 ) -> bool {
     let state = (set_number(path), path[path.len() - 1]);
-    let members = pool.members_in(path);
-    if failed.contains(&state) || members > longest_from(pool, limits, path[0]) {
+    let too_long = pool.members_in(path) > longest_from(pool, limits, path[0]);
+    if failed.contains(&state) || too_long {
         return false;
     }
     for &next in &pool.gives[state.1] {
@@ -174,8 +185,8 @@ fn complete(
             path.pop();
         }
     }
-    let served = members + usize::from(best[free_behind(free, path)]);
-    if is_exchange(pool, limits, path) && served == usize::from(best[free]) {
+    let served = Held::by(pool, path) + best[free_behind(free, path)];
+    if is_exchange(pool, limits, path) && served == best[free] {
         return true;
     }
     failed.insert(state);

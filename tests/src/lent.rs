@@ -22,6 +22,12 @@ impl Garbage for u16 {
     }
 }
 
+impl Garbage for u32 {
+    fn garbage(random: &mut Random) -> Self {
+        random.number() as u32
+    }
+}
+
 pub struct Lent<T> {
     all: Vec<T>,
     copy: Vec<T>,

@@ -73,11 +73,10 @@ impl Commands {
         limits: Limits,
         expected: &Result<Cleared, Refusal>,
     ) {
-        let sets = value.gives.iter().flat_map(|set| set.to_le_bytes());
-        let behind: Vec<u8> = [value.places, value.houses]
-            .into_iter()
-            .chain(sets)
-            .collect();
+        let mut behind = vec![value.places, value.houses];
+        for number in value.gives.iter().chain(&value.weeks) {
+            behind.extend(number.to_le_bytes());
+        }
         self.push(b'V', [limits.lc, limits.lp, 0], 0, &behind);
         let numbers = match expected {
             Ok(cleared) => numbers_of_cleared(cleared),

@@ -10,6 +10,7 @@ pub struct PoolValue {
     pub places: u8,
     pub houses: u8,
     pub gives: [u16; MOST_PLACES],
+    pub weeks: [u16; MOST_PLACES],
 }
 
 /// A pool record with room for every value, also the wrong ones.
@@ -148,6 +149,21 @@ fn random_weeks(random: &mut Random) -> u16 {
         1 => random.pick(&[255, 256, 512, 768]),
         _ => random.between(0, GREATEST_WEEKS.into()) as u16,
     }
+}
+
+/// Weeks for so many places, houses too: all 0, all equal, only 0 and the greatest, so few
+/// that many sums are equal, or any.
+pub fn weeks_of_places(random: &mut Random, places: usize) -> Vec<u16> {
+    let equal = random_weeks(random);
+    let sort = random.below(8);
+    let weeks = |_| match sort {
+        0 => 0,
+        1 => equal,
+        2 | 3 => random.pick(&[0, GREATEST_WEEKS]),
+        4 | 5 => random.pick(&[0, 1, 2]),
+        _ => random_weeks(random),
+    };
+    (0..places).map(weeks).collect()
 }
 
 /// Any machine number but 0; edges and a byte of 0 come often.

@@ -1,8 +1,11 @@
 //! Pools and limits for the tests, drawn at random or one after the other.
 
+use crate::layout::MOST_PLACES;
 use crate::oracle::exchange::Limits;
 use crate::oracle::pool::{read, Pool};
-use crate::pools::{bytes_of_arcs, random_pool, random_shape};
+use crate::pools::{
+    bytes_of, random_pool, random_shape, records_of_arcs, weeks_of_places, PoolValue, Record,
+};
 use crate::random::Random;
 
 /// Weeks at the edges of their range and of a byte, and such beyond the range; some of
@@ -11,39 +14,99 @@ pub const GOOD_WEEKS: [u16; 9] = [0, 1, 254, 255, 256, 257, 768, 998, 999];
 pub const BAD_WEEKS: [u16; 10] = [
     1_000, 1_001, 1_023, 1_024, 1_025, 2_000, 32_768, 59_139, 65_280, 65_535,
 ];
+/// Pool values that differ from a good one in weeks alone, and are refused by 6: "weeks above
+/// 999" at each place, houses too, "or other than 0 for a place that isn't there".
+pub fn values_of_bad_weeks(good: &PoolValue) -> Vec<PoolValue> {
+    let mut values = Vec::new();
+    for place in 0..MOST_PLACES {
+        let there = place < usize::from(good.places);
+        let absent_weeks = GOOD_WEEKS.iter().filter(|&&weeks| weeks != 0 && !there);
+        for &weeks in BAD_WEEKS.iter().chain(absent_weeks) {
+            let mut value = *good;
+            value.weeks[place] = weeks;
+            values.push(value);
+        }
+    }
+    values
+}
+
+/// Pool values that differ from a good one in the weeks of one place, a house or a member,
+/// and are good.
+pub fn values_of_good_weeks(good: &PoolValue) -> Vec<PoolValue> {
+    let mut values = Vec::new();
+    for place in 0..usize::from(good.places) {
+        for weeks in GOOD_WEEKS {
+            let mut value = *good;
+            value.weeks[place] = weeks;
+            values.push(value);
+        }
+    }
+    values
+}
+
 /// Machine numbers at the edges, those of a byte that is 0 and those above all weeks too.
 pub const GOOD_MACHINES: [u16; 10] = [1, 2, 255, 256, 257, 1_000, 1_024, 32_768, 65_280, 65_535];
 
-/// Pool bytes that have the arcs of a pool value.
-pub fn bytes_of_pool(pool: &Pool) -> Vec<u8> {
-    bytes_of_arcs(pool.houses, &pool.gives)
+/// Records that have the arcs and the weeks of a pool value.
+pub fn records_of_pool(pool: &Pool) -> Vec<Record> {
+    let mut records = records_of_arcs(pool.houses, &pool.gives);
+    for (record, &weeks) in records.iter_mut().zip(&pool.weeks) {
+        record.weeks = weeks;
+    }
+    records
 }
 
+pub fn bytes_of_pool(pool: &Pool) -> Vec<u8> {
+    bytes_of(&records_of_pool(pool))
+}
+
+/// A pool of weeks 0.
 pub fn pool_with(places: usize, houses: usize, gives: Vec<Vec<usize>>) -> Pool {
     Pool {
         places,
         houses,
         gives,
+        weeks: vec![0; places],
     }
+}
+
+/// The same pool with these weeks.
+pub fn with_weeks(pool: &Pool, weeks: Vec<u16>) -> Pool {
+    Pool {
+        weeks,
+        ..pool.clone()
+    }
+}
+
+/// The same pool with weeks of any sort.
+pub fn with_some_weeks(random: &mut Random, pool: &Pool) -> Pool {
+    with_weeks(pool, weeks_of_places(random, pool.places))
+}
+
+/// A pool of these arcs with weeks of any sort.
+pub fn pool_that_waits(random: &mut Random, houses: usize, gives: Vec<Vec<usize>>) -> Pool {
+    let pool = pool_with(gives.len(), houses, gives);
+    with_some_weeks(random, &pool)
 }
 
 /// The same pool with its members in another order.
 pub fn renumbered(random: &mut Random, pool: &Pool) -> Pool {
     let mut number: Vec<usize> = (0..pool.places).collect();
     random.shuffle(&mut number[pool.houses..]);
-    let mut gives = vec![Vec::new(); pool.places];
+    let mut other = pool.clone();
     for (giver, takers) in pool.gives.iter().enumerate() {
         let takers = takers.iter().map(|&taker| number[taker]);
-        gives[number[giver]] = takers.collect();
-        gives[number[giver]].sort();
+        other.gives[number[giver]] = takers.collect();
+        other.gives[number[giver]].sort();
+        other.weeks[number[giver]] = pool.weeks[giver];
     }
-    pool_with(pool.places, pool.houses, gives)
+    other
 }
 
 fn shaped_pool(random: &mut Random, places: usize) -> Pool {
     let houses = random.between(0, places.min(4));
     let gives = random_shape(random, places, houses);
-    pool_with(places, houses, gives)
+    pool_that_waits(random, houses, gives)
 }
 
 /// Half of them by wanted arcs, half by random record fields.

@@ -14,7 +14,7 @@ pub struct Found {
 }
 
 /// The plan over filled tables.
-pub fn search(pool: &PoolValue, limits: Limits, exchanges: &[u16], best: &[u8]) -> Found {
+pub fn search(pool: &PoolValue, limits: Limits, exchanges: &[u16], best: &[u32]) -> Found {
     let mut found = Found::default();
     let mut free = (1 << pool.places) - 1;
     while best[free] > 0 {
@@ -36,7 +36,7 @@ pub fn search(pool: &PoolValue, limits: Limits, exchanges: &[u16], best: &[u8]) 
 struct Round<'a> {
     pool: &'a PoolValue,
     exchanges: &'a [u16],
-    best: &'a [u8],
+    best: &'a [u32],
     free: usize,
     /// The most places of the exchange, and those where it may end.
     most: u32,
@@ -52,7 +52,7 @@ impl<'a> Round<'a> {
         pool: &'a PoolValue,
         limits: Limits,
         exchanges: &'a [u16],
-        best: &'a [u8],
+        best: &'a [u32],
         free: usize,
     ) -> Self {
         let first = free.trailing_zeros() as usize;
@@ -93,8 +93,15 @@ impl<'a> Round<'a> {
     }
 
     fn may_end(&self, set: usize, last: usize) -> bool {
-        let members = (set >> self.pool.houses).count_ones() as u8;
-        let keeps_best = members + self.best[self.free ^ set] == self.best[self.free];
+        let behind = self.best[self.free ^ set];
+        let keeps_best = worth(self.pool, set) + behind == self.best[self.free];
         keeps_best && self.exchanges[set] >> last & 1 == 1
     }
+}
+
+/// The set's members and their weeks as an entry of the best table counts them.
+fn worth(pool: &PoolValue, set: usize) -> u32 {
+    let members = set >> pool.houses << pool.houses;
+    let weeks = places_in(members as u16).map(|member| u32::from(pool.weeks[member]));
+    members.count_ones() * 65_536 + weeks.sum::<u32>()
 }

@@ -8,7 +8,7 @@ use swapboard_tests::large;
 use swapboard_tests::layout::*;
 use swapboard_tests::lent::Lent;
 use swapboard_tests::oracle::exchange::Limits;
-use swapboard_tests::oracle::plan::{cleared, test_clearing, Cleared, Rooms};
+use swapboard_tests::oracle::plan::*;
 use swapboard_tests::oracle::pool::{read, Pool};
 use swapboard_tests::pools::*;
 use swapboard_tests::random::Random;
@@ -116,7 +116,7 @@ fn expect_row(bytes: &[u8], lc: u8, lp: u8, served: u64, records: &[(char, &[u8]
     let answer = clear(bytes, limits, &mut exchanges, &mut best, &mut plan);
     assert_eq!(answer, Answer::accepted(served, records.len() as u64));
     assert_eq!(&plan[..16 * records.len()], plan_of(records));
-    assert_eq!(u64::from(best[best.len() - 1]), served);
+    assert_eq!(u64::from(best[best.len() - 1] / 65_536), served);
     let expected = Ok(cleared(&read(bytes).unwrap(), limits));
     expect_cleared(random, bytes, limits, Rooms::needed(places), &expected);
 }
@@ -147,7 +147,8 @@ fn every_pool_of_up_to_three_places_at_every_limit() {
     for places in 0..=3 {
         for_every_pool(places, |pool| {
             for limits in limits_that_matter(places) {
-                compare_with_all_plans(random, pool, limits);
+                let pool = with_some_weeks(random, pool);
+                compare_with_all_plans(random, &pool, limits);
             }
         });
     }
@@ -158,7 +159,8 @@ fn every_pool_of_four_places() {
     let random = &mut Random::new(303);
     for_every_pool(4, |pool| {
         let limits = random_limits(random, 4);
-        compare_with_all_plans(random, pool, limits);
+        let pool = with_some_weeks(random, pool);
+        compare_with_all_plans(random, &pool, limits);
     });
 }
 
@@ -176,19 +178,79 @@ fn random_pools_of_five_to_eight_places() {
     }
 }
 
-/// Many equal places, so that many plans serve most and only bytes decide.
+/// Chains from few houses, or rings of two or three, mostly such that not all can be served:
+/// so many plans serve most and leave out others.
+fn pool_of_many_ties(random: &mut Random, places: usize) -> (Pool, Limits) {
+    let chains = [(1, 0, 1), (2, 0, 1), (1, 0, 2), (2, 0, 2)];
+    let rings = [(0, 2, 0), (0, 3, 0), (1, 2, 0), (2, 2, 1)];
+    let sort = random.pick(&[chains, rings]);
+    let (houses, lc, lp) = random.pick(&sort);
+    let houses = places.min(houses);
+    let percent = random.pick(&[40, 70, 100]);
+    let self_percent = random.pick(&[0, 0, 0, 30]);
+    let gives = random_arcs(random, places, houses, percent, self_percent);
+    (pool_with(places, houses, gives), Limits::new(lc, lp))
+}
+
+/// What decided between the plans that serve most, counted so that neither is left out.
+#[derive(Debug, Default)]
+struct Decided {
+    by_weeks: usize,
+    by_bytes_behind_weeks: usize,
+}
+
+impl Decided {
+    fn count(&mut self, pool: &Pool, limits: Limits) {
+        let serving_most = plans_serving_most(pool, limits);
+        let of_most_weeks = plans_of_most_weeks(pool, serving_most.clone());
+        let weeks_left_some_out = of_most_weeks.len() < serving_most.len();
+        let first = first_by_bytes(pool, serving_most);
+        self.by_weeks += usize::from(!of_most_weeks.contains(&first));
+        let bytes_had_a_choice = of_most_weeks.len() > 1;
+        self.by_bytes_behind_weeks += usize::from(weeks_left_some_out && bytes_had_a_choice);
+    }
+}
+
+/// Two pools that differ in weeks alone, each against all legal plans: "among plans serving
+/// most members, the greatest sum of weeks over the served now comes first, then the records'
+/// bytes".
 #[test]
 fn pools_of_many_ties() {
     let random = &mut Random::new(305);
-    for round in 0..300 {
-        let places = 4 + round % 3;
-        let houses = random.between(0, 3);
-        let percent = random.pick(&[80, 100]);
-        let gives = random_arcs(random, places, houses, percent, 50);
-        let pool = pool_with(places, houses, gives);
-        let limits = Limits::new(random.between(0, 3) as u8, random.between(0, 3) as u8);
-        compare_with_all_plans(random, &pool, limits);
+    let mut decided = Decided::default();
+    let mut pairs_apart = 0;
+    for round in 0..1_500 {
+        let (pool, limits) = pool_of_many_ties(random, 4 + round % 4);
+        let pair = [0, 1].map(|_| with_some_weeks(random, &pool));
+        for pool in &pair {
+            compare_with_all_plans(random, pool, limits);
+            decided.count(pool, limits);
+        }
+        let [one, other] = pair.map(|pool| cleared(&pool, limits).plan);
+        pairs_apart += usize::from(one != other);
     }
+    assert!(decided.by_weeks > 200, "{decided:?}");
+    assert!(decided.by_bytes_behind_weeks > 200, "{decided:?}");
+    assert!(pairs_apart > 150, "{pairs_apart} pairs apart");
+}
+
+/// The same against the second methods.
+#[test]
+fn large_pools_of_many_ties() {
+    let random = &mut Random::new(329);
+    let mut pairs_apart = 0;
+    for (places, pools) in [(10, 40), (11, 30), (12, 20), (13, 15), (14, 15)] {
+        for _ in 0..pools {
+            let (pool, limits) = pool_of_many_ties(random, places);
+            let pair = [0, 1].map(|_| with_some_weeks(random, &pool));
+            for pool in &pair {
+                compare_with_second_methods(random, &bytes_of_pool(pool), limits);
+            }
+            let [one, other] = pair.map(|pool| cleared_by_call(&pool, limits).plan);
+            pairs_apart += usize::from(one != other);
+        }
+    }
+    assert!(pairs_apart > 30, "{pairs_apart} pairs apart");
 }
 
 #[test]
@@ -238,8 +300,9 @@ fn one_ring_and_complete_pools_of_every_size() {
     let random = &mut Random::new(309);
     for places in 1..=MOST_PLACES {
         for houses in 0..places.min(4) {
-            let ring = bytes_of_arcs(houses, &one_ring(places, houses));
-            let complete = bytes_of_arcs(houses, &all_arcs(places, houses, houses % 2 == 0));
+            let ring = pool_that_waits(random, houses, one_ring(places, houses));
+            let all = all_arcs(places, houses, houses % 2 == 0);
+            let complete = pool_that_waits(random, houses, all);
             let members = (places - houses) as u8;
             for limits in [
                 Limits::new(14, 14),
@@ -247,14 +310,14 @@ fn one_ring_and_complete_pools_of_every_size() {
                 Limits::new(members - 1, members),
                 Limits::new(3, 2),
             ] {
-                compare_with_second_methods(random, &ring, limits);
-                compare_with_second_methods(random, &complete, limits);
+                compare_with_second_methods(random, &bytes_of_pool(&ring), limits);
+                compare_with_second_methods(random, &bytes_of_pool(&complete), limits);
             }
         }
     }
 }
 
-/// Nothing is served, and nothing stands in either table.
+/// Nothing is served, and nothing stands in either table, whatever the weeks.
 fn expect_nothing(random: &mut Random, houses: usize, gives: &[Vec<usize>], limits: Limits) {
     let places = gives.len();
     let nothing = Cleared {
@@ -264,7 +327,7 @@ fn expect_nothing(random: &mut Random, houses: usize, gives: &[Vec<usize>], limi
         best: vec![0; 1 << places],
         plan: Vec::new(),
     };
-    let bytes = bytes_of_arcs(houses, gives);
+    let bytes = bytes_of_pool(&pool_that_waits(random, houses, gives.to_vec()));
     expect_cleared(random, &bytes, limits, Rooms::needed(places), &Ok(nothing));
 }
 
@@ -295,7 +358,8 @@ fn rings_all_too_long() {
     }
 }
 
-/// Against the second methods and a plan written by hand.
+/// Against the second methods and a plan written by hand, whatever the weeks: no other plan
+/// serves as many members, or all plans that do serve all.
 fn expect_plan(
     random: &mut Random,
     houses: usize,
@@ -303,12 +367,12 @@ fn expect_plan(
     limits: Limits,
     records: &[(char, &[u8])],
 ) {
-    let bytes = bytes_of_arcs(houses, gives);
-    let expected = large::cleared(&read(&bytes).unwrap(), limits);
+    let pool = pool_that_waits(random, houses, gives.to_vec());
+    let expected = large::cleared(&pool, limits);
     let case = (gives, limits);
     assert_eq!(expected.plan, plan_of(records), "by hand: {case:?}");
     let rooms = Rooms::needed(gives.len());
-    expect_cleared(random, &bytes, limits, rooms, &Ok(expected));
+    expect_cleared(random, &bytes_of_pool(&pool), limits, rooms, &Ok(expected));
 }
 
 /// The lowest places lead everywhere and nothing leads back to them: all are left out, one
@@ -390,7 +454,7 @@ fn one_chain_hidden_among_ways_back() {
         let chain: Vec<u8> = order.iter().map(|&place| place as u8).collect();
         let just_enough = Limits::new(0, members as u8);
         expect_plan(random, 1, &gives, just_enough, &[('C', &chain)]);
-        let bytes = bytes_of_arcs(1, &gives);
+        let bytes = bytes_of_pool(&pool_that_waits(random, 1, gives));
         let one_below = Limits::new(0, members as u8 - 1);
         compare_with_second_methods(random, &bytes, one_below);
         compare_with_second_methods(random, &bytes, Limits::new(members as u8 / 2, one_below.lp));
@@ -409,7 +473,7 @@ fn the_one_ring_that_needs_the_highest_place() {
         }
         let all = Limits::new(places as u8, 0);
         expect_plan(random, 0, &gives, all, &[('R', &numbers[..places])]);
-        let bytes = bytes_of_arcs(0, &gives);
+        let bytes = bytes_of_pool(&pool_that_waits(random, 0, gives));
         for limit in [places as u8 - 1, 3, 2] {
             compare_with_second_methods(random, &bytes, Limits::new(limit, 0));
         }
@@ -482,7 +546,7 @@ fn pool_with_traps(random: &mut Random, places: usize) -> Pool {
             }
         }
     }
-    pool_with(places, houses, gives)
+    pool_that_waits(random, houses, gives)
 }
 
 #[test]
@@ -504,8 +568,8 @@ fn dead_ends_shared_by_many_paths() {
     }
 }
 
-/// The pools of the benchmark, as they are and with other limits and the members numbered
-/// anew.
+/// The pools of the benchmark, as they are and with other limits and weeks and the members
+/// numbered anew.
 #[test]
 fn pools_of_the_benchmark() {
     let random = &mut Random::new(323);
@@ -516,12 +580,15 @@ fn pools_of_the_benchmark() {
         compare_with_second_methods(random, &bytes_of_pool(&pool), limits);
         let renumbered = renumbered(random, &pool);
         compare_with_second_methods(random, &bytes_of_pool(&renumbered), limits);
+        let waiting = with_some_weeks(random, &renumbered);
         let other = random_limits(random, 12);
-        compare_with_second_methods(random, &bytes_of_pool(&renumbered), other);
+        compare_with_second_methods(random, &bytes_of_pool(&waiting), limits);
+        compare_with_second_methods(random, &bytes_of_pool(&waiting), other);
     }
 }
 
-/// Complete pools: of all sets that the limits allow, and of all lists, only bytes decide.
+/// Complete pools: of all sets that the limits allow, and of all lists, only weeks and bytes
+/// decide.
 #[test]
 fn complete_pools_at_every_limit() {
     let random = &mut Random::new(324);
@@ -529,19 +596,22 @@ fn complete_pools_at_every_limit() {
         for houses in 0..=places.min(2) {
             let pool = pool_with(places, houses, all_arcs(places, houses, places % 2 == 0));
             for limits in limits_that_matter(places) {
+                let pool = with_some_weeks(random, &pool);
                 compare_with_all_plans(random, &pool, limits);
             }
         }
     }
     for houses in [0, 1, 4] {
-        let bytes = bytes_of_arcs(houses, &all_arcs(14, houses, houses == 1));
+        let pool = pool_with(14, houses, all_arcs(14, houses, houses == 1));
         for limit in 0..=14 {
+            let bytes = bytes_of_pool(&with_some_weeks(random, &pool));
             compare_with_second_methods(random, &bytes, Limits::new(limit, 14 - limit));
         }
     }
 }
 
-/// Members of one sort differ in nothing but their place; there are one to three sorts.
+/// Members of one sort differ in nothing but their place and their weeks; there are one to
+/// three sorts.
 #[test]
 fn identical_members() {
     let random = &mut Random::new(325);
@@ -558,6 +628,7 @@ fn identical_members() {
             Record::member(sort as u8, 50, 50, taken[sort])
         };
         let pool = read(&bytes_of(&numbered((0..places).map(record)))).unwrap();
+        let pool = with_some_weeks(random, &pool);
         let limits = Limits::new(random.between(0, 4) as u8, random.between(0, 4) as u8);
         if places < 14 {
             compare_with_all_plans(random, &pool, limits);
@@ -592,7 +663,10 @@ fn every_length_of_the_plan_buffer() {
 #[test]
 fn rooms_around_the_needed_ones() {
     let random = &mut Random::new(312);
-    let around = |needed: usize| [0, needed / 2, needed.saturating_sub(1), needed, needed + 7];
+    let around = |needed: usize| {
+        let one_below = needed.saturating_sub(1);
+        [0, needed / 4, needed / 2, one_below, needed, needed + 7]
+    };
     for places in [0, 1, 2, 3, 4, 5, 6, 8, 11] {
         let bytes = bytes_of_pool(&some_pool(random, places));
         let needed = Rooms::needed(places);
@@ -702,58 +776,219 @@ fn faults_of_every_two_records() {
     for_every_two_records_at_fault(random, 6, expect_refused_record);
 }
 
-/// Pools that differ in weeks and machine numbers alone have the same tables and plan.
-#[test]
-fn weeks_and_machine_numbers_make_no_difference() {
-    let random = &mut Random::new(327);
-    for (places, pools) in [
-        (0, 1),
-        (1, 4),
-        (2, 40),
-        (3, 100),
-        (4, 100),
-        (5, 100),
-        (6, 60),
-    ] {
-        for _ in 0..pools {
-            let pool = some_pool(random, places);
+/// Clears by the call, to be compared with another call.
+fn cleared_by_call(pool: &Pool, limits: Limits) -> Cleared {
+    let rooms = Rooms::needed(pool.places);
+    let mut exchanges = vec![0; rooms.exchanges];
+    let mut best = vec![0; rooms.best];
+    let mut plan = vec![0; rooms.plan];
+    let bytes = bytes_of_pool(pool);
+    let answer = clear(&bytes, limits, &mut exchanges, &mut best, &mut plan);
+    assert_eq!(answer.number, 0, "{pool:?} {limits:?}");
+    plan.truncate(16 * answer.second as usize);
+    Cleared {
+        served: answer.first as usize,
+        records: answer.second as usize,
+        exchanges,
+        best,
+        plan,
+    }
+}
+
+/// Pools of every size, some of many ties, with the limits they are cleared at.
+fn pools_of_every_size(random: &mut Random) -> Vec<(Pool, Limits)> {
+    let mut pools = Vec::new();
+    for places in 0..=MOST_PLACES {
+        for _ in 0..if places < 11 { 60 } else { 15 } {
+            let (tied, limits) = pool_of_many_ties(random, places);
+            pools.push((with_some_weeks(random, &tied), limits));
             let limits = random_limits(random, places);
-            let expected = cleared(&pool, limits);
-            expect_same_whatever_the_weeks(random, &pool, limits, expected);
+            pools.push((some_pool(random, places), limits));
         }
     }
-    for places in [8, 11, MOST_PLACES] {
-        for _ in 0..10 {
-            let pool = some_pool(random, places);
-            let limits = Limits::new(random.between(1, 4) as u8, random.between(1, 4) as u8);
-            let expected = large::cleared(&pool, limits);
-            expect_same_whatever_the_weeks(random, &pool, limits, expected);
+    pools
+}
+
+/// Whatever was given as weeks to houses: "a house's weeks count nowhere".
+#[test]
+fn weeks_of_houses_make_no_difference() {
+    let random = &mut Random::new(330);
+    for (mut pool, limits) in pools_of_every_size(random) {
+        let expected = Ok(cleared_by_call(&pool, limits));
+        for weeks in [0, 1, GREATEST_WEEKS] {
+            for house in 0..pool.houses {
+                pool.weeks[house] = random.pick(&[weeks, weeks, 500]);
+            }
+            let rooms = Rooms::needed(pool.places);
+            expect_cleared(random, &bytes_of_pool(&pool), limits, rooms, &expected);
         }
     }
 }
 
-/// Rising and falling with the places, and at random.
-fn expect_same_whatever_the_weeks(
-    random: &mut Random,
-    pool: &Pool,
-    limits: Limits,
-    expected: Cleared,
-) {
-    let rooms = Rooms::needed(pool.places);
-    let expected = Ok(expected);
-    let records = records_of_arcs(pool.houses, &pool.gives);
-    let mut rising = records.clone();
-    let mut falling = records.clone();
-    for place in 0..pool.places {
-        let step = place as u16;
-        rising[place].weeks = GREATEST_WEEKS - MOST_PLACES as u16 + step;
-        falling[place].weeks = GREATEST_WEEKS - step;
-        falling[place].machine = u16::MAX - step;
+/// Weeks that are equal for all members leave the plan to the bytes, as weeks 0 do; an entry
+/// holds them once for each of its members.
+#[test]
+fn equal_weeks_are_as_no_weeks() {
+    let random = &mut Random::new(331);
+    for (pool, limits) in pools_of_every_size(random) {
+        let none = cleared_by_call(&with_weeks(&pool, vec![0; pool.places]), limits);
+        for weeks in [1, 255, 256, GREATEST_WEEKS] {
+            let more = |entry: &u32| entry + entry / 65_536 * u32::from(weeks);
+            let expected = Ok(Cleared {
+                best: none.best.iter().map(more).collect(),
+                ..none.clone()
+            });
+            let equal = with_weeks(&pool, vec![weeks; pool.places]);
+            let rooms = Rooms::needed(pool.places);
+            expect_cleared(random, &bytes_of_pool(&equal), limits, rooms, &expected);
+        }
     }
-    let mut drawn = records;
-    draw_weeks_and_machines(random, &mut drawn);
-    for records in [rising, falling, drawn] {
-        expect_cleared(random, &bytes_of(&records), limits, rooms, &expected);
+}
+
+/// Pools that differ in machine numbers alone have the same tables and plan: numbers falling
+/// with the places, and at random.
+#[test]
+fn machine_numbers_make_no_difference() {
+    let random = &mut Random::new(327);
+    for (pool, limits) in pools_of_every_size(random) {
+        let rooms = Rooms::needed(pool.places);
+        let expected = Ok(cleared_by_call(&pool, limits));
+        let mut falling = records_of_pool(&pool);
+        let mut drawn = falling.clone();
+        draw_weeks_and_machines(random, &mut drawn);
+        for place in 0..pool.places {
+            falling[place].machine = u16::MAX - place as u16;
+            drawn[place].weeks = pool.weeks[place];
+        }
+        for records in [falling, drawn] {
+            expect_cleared(random, &bytes_of(&records), limits, rooms, &expected);
+        }
+    }
+}
+
+/// The pool of these arcs and weeks.
+fn pool_told(houses: usize, arcs: &[(usize, usize)], weeks: &[u16]) -> Vec<u8> {
+    let mut gives = vec![Vec::new(); weeks.len()];
+    for &(giver, taker) in arcs {
+        gives[giver].push(taker);
+    }
+    let pool = pool_with(weeks.len(), houses, gives);
+    bytes_of_pool(&with_weeks(&pool, weeks.to_vec()))
+}
+
+/// A house and two that it could give to.
+#[test]
+fn the_longest_waiting_of_two() {
+    for (weeks, served) in [
+        ([0, 5, 6], 2),
+        ([0, 6, 5], 1),
+        ([0, 6, 6], 1),
+        ([0, 0, 1], 2),
+        ([999, 0, 1], 2),
+        ([7, 1, 0], 1),
+        ([0, 255, 256], 2),
+        ([0, 256, 255], 1),
+        ([0, 258, 513], 2),
+        ([0, 513, 258], 1),
+        ([0, 998, 999], 2),
+    ] {
+        let pool = pool_told(1, &[(0, 1), (0, 2)], &weeks);
+        expect_row(&pool, 0, 1, 1, &[('C', &[0, served])]);
+    }
+}
+
+/// "A house's weeks count nowhere": of two houses the lower one, whichever waited longer.
+#[test]
+fn houses_that_waited() {
+    for weeks in [[0, 999, 3], [999, 0, 3], [0, 1, 0]] {
+        let pool = pool_told(2, &[(0, 2), (1, 2)], &weeks);
+        expect_row(&pool, 0, 1, 1, &[('C', &[0, 2])]);
+    }
+}
+
+/// A ring of three that waited no week comes before one of two that waited longest.
+#[test]
+fn more_members_come_before_more_weeks() {
+    let arcs = [(0, 1), (1, 0), (1, 2), (2, 3), (3, 1)];
+    let pool = pool_told(0, &arcs, &[999, 999, 0, 0]);
+    expect_row(&pool, 3, 0, 3, &[('R', &[1, 2, 3])]);
+    expect_row(&pool, 2, 0, 2, &[('R', &[0, 1])]);
+}
+
+/// Behind one house a chain of up to six that waited longest and one of a member more that
+/// waited no week: no plans have more weeks between them and members that differ.
+#[test]
+fn one_member_more_comes_before_any_weeks() {
+    let random = &mut Random::new(333);
+    for few in 1..=6 {
+        let mut gives: Vec<Vec<usize>> = (1..2 * few + 2).map(|next| vec![next]).collect();
+        gives[0].push(few + 1);
+        gives[few].clear();
+        gives.push(Vec::new());
+        let mut weeks = vec![0; gives.len()];
+        weeks[1..=few].fill(GREATEST_WEEKS);
+        let pool = with_weeks(&pool_with(gives.len(), 1, gives), weeks);
+        for (limit, first) in [(few, 1), (few + 1, few + 1), (14, few + 1)] {
+            let limits = Limits::new(14, limit as u8);
+            let members = (first..pool.places).take(limit.min(few + 1));
+            let chain: Vec<u8> = [0].into_iter().chain(members.map(|v| v as u8)).collect();
+            let expected = large::cleared(&pool, limits);
+            assert_eq!(
+                expected.plan,
+                plan_of(&[('C', &chain)]),
+                "{pool:?} {limits:?}"
+            );
+            let rooms = Rooms::needed(pool.places);
+            expect_cleared(random, &bytes_of_pool(&pool), limits, rooms, &Ok(expected));
+        }
+    }
+}
+
+/// Not the greatest weeks of one member.
+#[test]
+fn the_sum_of_weeks_counts() {
+    let arcs = [(0, 1), (1, 2), (0, 3), (3, 4)];
+    let first: [(char, &[u8]); 1] = [('C', &[0, 1, 2])];
+    let second: [(char, &[u8]); 1] = [('C', &[0, 3, 4])];
+    for (weeks, records) in [
+        ([0, 999, 0, 500, 500], second),
+        ([0, 999, 0, 499, 500], first),
+        ([0, 500, 500, 999, 0], first),
+        ([0, 0, 999, 999, 1], second),
+        ([0, 999, 999, 999, 998], first),
+        ([0, 998, 999, 999, 999], second),
+    ] {
+        expect_row(&pool_told(1, &arcs, &weeks), 0, 2, 2, &records);
+    }
+}
+
+/// The first chain gives up the member that waited longest, whom the second can serve too.
+#[test]
+fn weeks_of_the_whole_plan_count() {
+    let arcs = [(0, 2), (0, 3), (1, 2), (1, 4)];
+    let pool = pool_told(2, &arcs, &[0, 0, 10, 9, 1]);
+    expect_row(&pool, 0, 1, 2, &[('C', &[0, 3]), ('C', &[1, 2])]);
+    let pool = pool_told(2, &arcs, &[0, 0, 10, 1, 9]);
+    expect_row(&pool, 0, 1, 2, &[('C', &[0, 2]), ('C', &[1, 4])]);
+}
+
+/// A chain of twelve leaves out the one of thirteen that waited least, whose weeks are one
+/// below those of all others, so that 11,988 weeks are served and not 11,987.
+#[test]
+fn the_one_that_waited_least_is_left_out() {
+    let random = &mut Random::new(332);
+    let complete = pool_with(MOST_PLACES, 1, all_arcs(MOST_PLACES, 1, false));
+    for out in 1..MOST_PLACES {
+        let mut weeks = vec![GREATEST_WEEKS; MOST_PLACES];
+        weeks[out] -= 1;
+        let pool = with_weeks(&complete, weeks);
+        let limits = Limits::new(0, 12);
+        let expected = large::cleared(&pool, limits);
+        let served: Vec<u8> = (0..14).filter(|&place| usize::from(place) != out).collect();
+        assert_eq!(expected.plan, plan_of(&[('C', &served)]));
+        assert_eq!(expected.best[expected.best.len() - 1], 12 * 65_536 + 11_988);
+        let rooms = Rooms::needed(MOST_PLACES);
+        expect_cleared(random, &bytes_of_pool(&pool), limits, rooms, &Ok(expected));
     }
 }
 

@@ -249,7 +249,7 @@ fn stack_of_the_program() {
     let files = Files::new(&bytes_of_arcs(0, &one_ring(14, 0)), 14, 14);
     let folder = Folder::with(&files);
     let command = by_itself(folder.path());
-    let mut shell = in_shell(r#"ulimit -s 128; exec env -i "$@""#, command);
+    let mut shell = in_shell(r#"ulimit -s 256; exec env -i "$@""#, command);
     expect(run(&mut shell), &text(&files), "", 0);
 }
 

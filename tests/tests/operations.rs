@@ -6,9 +6,10 @@ use swapboard_tests::operations::{Commands, MOST_PLAN};
 use swapboard_tests::oracle::exchange::Limits;
 use swapboard_tests::oracle::plan::{clear_value, cleared};
 use swapboard_tests::oracle::pool::read;
-use swapboard_tests::pools::pool_a;
+use swapboard_tests::pools::{pool_a, random_shape};
 use swapboard_tests::random::Random;
-use swapboard_tests::samples::{limits_around_fourteen, random_limits, some_pool};
+use swapboard_tests::refusal::Refusal;
+use swapboard_tests::samples::*;
 
 /// Every set with each place in turn, so that each place meets many sets.
 #[test]
@@ -117,8 +118,8 @@ fn pool_values_cleared() {
     commands.run();
 }
 
-/// 6 before 7: a set, the places or the houses of a faultless pool altered in one bit or
-/// by one, under good limits and bad.
+/// 6 before 7: a set, the weeks, the places or the houses of a faultless pool altered in one
+/// bit or by one, under good limits and bad.
 #[test]
 fn pool_values_refused() {
     let random = &mut Random::new(606);
@@ -127,10 +128,11 @@ fn pool_values_refused() {
     for round in 0..1_500 {
         let places = round % 8;
         let mut value = some_pool(random, places).value();
-        match round % 3 {
+        match round % 5 {
             0 => value.gives[random.below(14)] ^= 1 << random.below(16),
             1 => value.places = random.below(20) as u8,
-            _ => value.houses = random.below(10) as u8,
+            2 => value.houses = random.below(10) as u8,
+            _ => value.weeks[random.below(14)] ^= 1 << random.below(16),
         }
         let among = if random.chance(50) { &good } else { &bad };
         let limits = random.pick(among);
@@ -140,6 +142,34 @@ fn pool_values_refused() {
     let a = read(&pool_a()).unwrap().value();
     for limits in good.into_iter().chain(bad) {
         commands.clear(&a, limits, &clear_value(&a, limits, cleared));
+    }
+    commands.run();
+}
+
+/// Weeks at their edges and beyond them at every place, 6 before 7.
+#[test]
+fn weeks_of_pool_values() {
+    let random = &mut Random::new(607);
+    let mut commands = Commands::default();
+    for places in 0..=14 {
+        for houses in [0, 1, places / 2, places].map(|houses| houses.min(places)) {
+            let gives = random_shape(random, places, houses);
+            let value = pool_that_waits(random, houses, gives).value();
+            let refused = Err(Refusal { number: 6, at: 0 });
+            for bad in values_of_bad_weeks(&value) {
+                commands.clear(&bad, Limits::new(2, 2), &refused);
+                commands.clear(&bad, Limits::new(2, 15), &refused);
+            }
+        }
+    }
+    for places in 1..=7 {
+        let value = some_pool(random, places).value();
+        for good in values_of_good_weeks(&value) {
+            let limits = Limits::new(random.between(0, 3) as u8, random.between(0, 3) as u8);
+            let expected = clear_value(&good, limits, cleared);
+            assert!(expected.is_ok(), "{good:?}");
+            commands.clear(&good, limits, &expected);
+        }
     }
     commands.run();
 }

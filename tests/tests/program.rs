@@ -266,9 +266,10 @@ fn every_value_of_a_field() {
     }
 }
 
-/// Weeks and machine numbers in range print what pool B prints without them.
+/// Where all are served, weeks and machine numbers in range decide nothing: pool B's lines
+/// stay what they are.
 #[test]
-fn weeks_and_machine_numbers_make_no_difference() {
+fn weeks_and_machine_numbers_where_all_are_served() {
     let b = "served 4 of 4\nring 0 3\nring 1 2\n";
     for at in 0..4 {
         let expect_b = |field: usize, number: u16| {
@@ -282,6 +283,73 @@ fn weeks_and_machine_numbers_make_no_difference() {
         for machine in GOOD_MACHINES.into_iter().filter(|&machine| machine > 4) {
             expect_b(MACHINE_NUMBER, machine);
         }
+    }
+}
+
+/// A house gives to 1, to 2 and to 3, and these to 4; no week is printed.
+#[test]
+fn weeks_decide_which_lines_are_printed() {
+    let gives = [vec![1, 2, 3], vec![4], vec![4], vec![4], vec![]];
+    for (weeks, one, two) in [
+        ([0, 0, 0, 0, 0], "chain 0 1", "chain 0 1 4"),
+        ([0, 7, 7, 7, 7], "chain 0 1", "chain 0 1 4"),
+        ([0, 0, 1, 0, 0], "chain 0 2", "chain 0 2 4"),
+        ([0, 0, 1, 2, 999], "chain 0 3", "chain 0 3 4"),
+        ([999, 255, 256, 1, 0], "chain 0 2", "chain 0 2 4"),
+        ([999, 999, 998, 999, 0], "chain 0 1", "chain 0 1 4"),
+        ([0, 998, 998, 999, 999], "chain 0 3", "chain 0 3 4"),
+    ] {
+        let pool = with_weeks(&pool_with(5, 1, gives.to_vec()), weeks.to_vec());
+        let bytes = bytes_of_pool(&pool);
+        expect(
+            &Files::new(&bytes, 2, 1),
+            &format!("served 1 of 4\n{one}\n"),
+        );
+        expect(
+            &Files::new(&bytes, 0, 2),
+            &format!("served 2 of 4\n{two}\n"),
+        );
+        expect(&Files::new(&bytes, 14, 0), "served 0 of 4\n");
+    }
+}
+
+/// The house gives to one that waited longest, or to two that waited no week; and of two
+/// houses the lower one gives, whichever waited longer.
+#[test]
+fn members_come_before_weeks_and_houses_do_not_wait() {
+    let gives = vec![vec![1, 2], vec![], vec![3], vec![]];
+    let pool = with_weeks(&pool_with(4, 1, gives), vec![0, 999, 0, 0]);
+    let bytes = bytes_of_pool(&pool);
+    expect(&Files::new(&bytes, 0, 2), "served 2 of 3\nchain 0 2 3\n");
+    expect(&Files::new(&bytes, 0, 1), "served 1 of 3\nchain 0 1\n");
+    for weeks in [[0, 999, 5], [999, 0, 5]] {
+        let gives = vec![vec![2], vec![2], vec![]];
+        let pool = with_weeks(&pool_with(3, 2, gives), weeks.to_vec());
+        let bytes = bytes_of_pool(&pool);
+        expect(&Files::new(&bytes, 0, 1), "served 1 of 1\nchain 0 2\n");
+    }
+}
+
+/// Two rings that share a member, of which one is printed, and the chains through them.
+#[test]
+fn weeks_decide_between_rings() {
+    let gives = [vec![1], vec![2, 3], vec![1, 4], vec![1], vec![]];
+    for (weeks, lines) in [
+        ([0, 0, 0, 0, 0], "chain 0 1 2\n"),
+        ([0, 5, 0, 1, 0], "chain 0 1 3\n"),
+        ([9, 5, 1, 1, 900], "chain 0 1 2\n"),
+    ] {
+        let pool = with_weeks(&pool_with(5, 1, gives.to_vec()), weeks.to_vec());
+        let bytes = bytes_of_pool(&pool);
+        expect(
+            &Files::new(&bytes, 0, 2),
+            &format!("served 2 of 4\n{lines}"),
+        );
+        let rings = lines.replace("chain 0", "ring");
+        expect(
+            &Files::new(&bytes, 2, 0),
+            &format!("served 2 of 4\n{rings}"),
+        );
     }
 }
 
@@ -375,7 +443,7 @@ fn random_records_of_up_to_seven_places() {
     }
 }
 
-/// Many equal places, so that many plans serve most and only bytes decide.
+/// Many equal places, so that many plans serve most and only weeks and bytes decide.
 #[test]
 fn pools_of_many_ties() {
     let random = &mut Random::new(511);
@@ -384,7 +452,7 @@ fn pools_of_many_ties() {
         let houses = random.between(0, 3);
         let percent = random.pick(&[80, 100]);
         let gives = random_arcs(random, places, houses, percent, 50);
-        let pool = bytes_of_arcs(houses, &gives);
+        let pool = bytes_of_pool(&pool_that_waits(random, houses, gives));
         let limit = |random: &mut Random| random.between(0, 3) as u8;
         compare(&Files::new(&pool, limit(random), limit(random)));
     }

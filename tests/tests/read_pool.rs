@@ -1,4 +1,5 @@
-//! Reading pool bytes: every refusal at every record, and the arcs of accepted pools.
+//! Reading pool bytes: every refusal at every record, and the arcs and weeks of accepted
+//! pools.
 
 use swapboard_tests::baseline::pool::read_pool as read_by_baseline;
 use swapboard_tests::calls::{read_pool, Answer};
@@ -9,19 +10,44 @@ use swapboard_tests::oracle::pool::{read, Pool};
 use swapboard_tests::pools::*;
 use swapboard_tests::random::Random;
 use swapboard_tests::refusal::Refusal;
-use swapboard_tests::samples::{pool_with, GOOD_MACHINES, GOOD_WEEKS};
+use swapboard_tests::samples::{pool_with, with_weeks, GOOD_MACHINES, GOOD_WEEKS};
 
-/// Calls with garbage in `gives`; on a refusal all of it must be as it was.
-fn call(random: &mut Random, pool: &[u8]) -> (Answer, Option<[u16; MOST_PLACES]>) {
+/// What reading leaves in the lent arrays.
+#[derive(Clone, Copy, Debug, PartialEq, Eq)]
+struct ReadInto {
+    gives: [u16; MOST_PLACES],
+    weeks: [u16; MOST_PLACES],
+}
+
+impl ReadInto {
+    fn of(value: &Pool) -> Self {
+        let PoolValue { gives, weeks, .. } = value.value();
+        ReadInto { gives, weeks }
+    }
+}
+
+/// Calls with garbage in `gives` and `weeks`; on a refusal all of it must be as it was.
+fn call(random: &mut Random, pool: &[u8]) -> (Answer, Option<ReadInto>) {
     let mut lent_pool = Lent::holding(random, pool);
     let mut gives = Lent::garbage(random, MOST_PLACES);
-    let answer = read_pool(lent_pool.part(), gives.part().try_into().unwrap());
+    let mut weeks = Lent::garbage(random, MOST_PLACES);
+    let answer = read_pool(
+        lent_pool.part(),
+        gives.part().try_into().unwrap(),
+        weeks.part().try_into().unwrap(),
+    );
     lent_pool.expect_untouched(pool);
     if answer.number == 0 {
         gives.expect_front(gives.contents(), pool);
-        return (answer, Some(gives.contents().try_into().unwrap()));
+        weeks.expect_front(weeks.contents(), pool);
+        let read_into = ReadInto {
+            gives: gives.contents().try_into().unwrap(),
+            weeks: weeks.contents().try_into().unwrap(),
+        };
+        return (answer, Some(read_into));
     }
     gives.expect_untouched(pool);
+    weeks.expect_untouched(pool);
     (answer, None)
 }
 
@@ -38,16 +64,27 @@ fn expect_refused(random: &mut Random, pool: &[u8], number: u64, at: usize) {
 }
 
 fn expect_accepted(random: &mut Random, pool: &[u8], value: &Pool) {
-    let (answer, gives) = call(random, pool);
+    let (answer, read_into) = call(random, pool);
     let accepted = Answer::accepted(value.places as u64, value.houses as u64);
     assert_eq!(answer, accepted, "{pool:?}");
-    assert_eq!(gives, Some(value.value().gives), "{pool:?}");
+    assert_eq!(read_into, Some(ReadInto::of(value)), "{pool:?}");
     assert_eq!(read(pool).as_ref(), Ok(value), "oracle: {pool:?}");
     assert_eq!(
         read_by_baseline(pool),
         Ok(value.value()),
         "baseline: {pool:?}"
     );
+}
+
+/// The value of these records with these arcs: the weeks of houses and members are theirs.
+fn value_of(records: &[Record], gives: &[Vec<usize>]) -> Pool {
+    let houses = records.iter().filter(|record| record.kind == HOUSE);
+    let value = pool_with(records.len(), houses.count(), gives.to_vec());
+    with_weeks(&value, weeks_of(records))
+}
+
+fn weeks_of(records: &[Record]) -> Vec<u16> {
+    records.iter().map(|record| record.weeks).collect()
 }
 
 /// Compares with the oracle, whatever it says.
@@ -203,7 +240,7 @@ fn greatest_values_in_range_are_accepted() {
             records.resize(places, member);
             let takes = member.taken != 0;
             let takers: Vec<usize> = (houses..places).filter(|_| takes).collect();
-            let value = pool_with(places, houses, vec![takers; places]);
+            let value = value_of(&records, &vec![takers; places]);
             expect_accepted(random, &bytes_of(&numbered(records.clone())), &value);
             for (record, machine) in records.iter_mut().zip((1..=u16::MAX).rev()) {
                 record.machine = machine;
@@ -271,22 +308,29 @@ fn with_machine(records: &[Record], at: usize, machine: u16) -> Vec<Record> {
     records
 }
 
-fn with_weeks(records: &[Record], at: usize, weeks: u16) -> Vec<Record> {
+fn with_weeks_at(records: &[Record], at: usize, weeks: u16) -> Vec<Record> {
     let mut records = records.to_vec();
     records[at].weeks = weeks;
     records
 }
 
-/// The pool as a value, whatever the weeks and machine numbers, or 18 at the record.
-fn expect_value_or_18(random: &mut Random, pool: &[u8], value: &Pool, at: usize, good: bool) {
+/// The records as a value with these arcs, or 18 at the record.
+fn expect_value_or_18(
+    random: &mut Random,
+    records: &[Record],
+    gives: &[Vec<usize>],
+    at: usize,
+    good: bool,
+) {
+    let pool = bytes_of(records);
     if good {
-        expect_accepted(random, pool, value);
+        expect_accepted(random, &pool, &value_of(records, gives));
     } else {
-        expect_refused(random, pool, 18, at);
+        expect_refused(random, &pool, 18, at);
     }
 }
 
-/// Of houses and members alike.
+/// Of houses and members alike, and all weeks are returned.
 #[test]
 fn weeks_and_machine_numbers_at_their_edges_are_accepted() {
     let random = &mut Random::new(122);
@@ -294,15 +338,14 @@ fn weeks_and_machine_numbers_at_their_edges_are_accepted() {
         let gives = random_shape(random, places, houses);
         let mut records = records_of_arcs(houses, &gives);
         draw_weeks_and_machines(random, &mut records);
-        let value = pool_with(places, houses, gives);
         for at in 0..places {
             for weeks in GOOD_WEEKS {
-                let altered = with_weeks(&records, at, weeks);
-                expect_accepted(random, &bytes_of(&altered), &value);
+                let altered = with_weeks_at(&records, at, weeks);
+                expect_value_or_18(random, &altered, &gives, at, true);
             }
             for machine in GOOD_MACHINES {
                 let altered = with_machine(&records, at, machine);
-                expect_accepted(random, &bytes_of(&altered), &value);
+                expect_value_or_18(random, &altered, &gives, at, true);
             }
         }
     });
@@ -313,13 +356,12 @@ fn every_value_of_weeks_and_machine_number() {
     let random = &mut Random::new(123);
     let gives = vec![vec![1], vec![]];
     let records = records_of_arcs(1, &gives);
-    let value = pool_with(2, 1, gives);
     for number in 0..=u16::MAX {
         for at in 0..records.len() {
-            let weeks = with_weeks(&records, at, number);
-            expect_value_or_18(random, &bytes_of(&weeks), &value, at, number <= 999);
+            let weeks = with_weeks_at(&records, at, number);
+            expect_value_or_18(random, &weeks, &gives, at, number <= 999);
             let machine = with_machine(&records, at, number);
-            expect_value_or_18(random, &bytes_of(&machine), &value, at, number != 0);
+            expect_value_or_18(random, &machine, &gives, at, number != 0);
         }
     }
 }
@@ -341,9 +383,12 @@ fn bytes_of_weeks_and_machine_number() {
             pool[WEEKS + 1] = high;
             pool[MACHINE_NUMBER] = machine_low;
             pool[MACHINE_NUMBER + 1] = machine_high;
-            let few_weeks = high < 3 || high == 3 && low <= 231;
-            let good = few_weeks && (machine_low > 0 || machine_high > 0);
-            expect_value_or_18(random, &pool, &value, 0, good);
+            let weeks = u16::from(low) + 256 * u16::from(high);
+            if weeks <= 999 && (machine_low > 0 || machine_high > 0) {
+                expect_accepted(random, &pool, &with_weeks(&value, vec![weeks]));
+            } else {
+                expect_refused(random, &pool, 18, 0);
+            }
         }
     }
 }
@@ -360,20 +405,31 @@ fn records_told_byte_by_byte() {
         pool
     };
     let value = pool_with(2, 1, vec![vec![1], vec![]]);
-    for (bytes, good) in [
-        ([231, 3, 2, 0], true),
-        ([232, 3, 2, 0], false),
-        ([3, 231, 2, 0], false),
-        ([0, 4, 2, 0], false),
-        ([4, 0, 0, 2], true),
-        ([255, 255, 2, 0], false),
-        ([0, 0, 232, 3], true),
-        ([0, 0, 255, 255], true),
-        ([0, 0, 0, 0], false),
+    let sound = [7, 0, 1, 0];
+    for (bytes, weeks) in [
+        ([1, 0, 2, 0], 1),
+        ([255, 0, 2, 0], 255),
+        ([0, 1, 2, 0], 256),
+        ([1, 2, 2, 0], 513),
+        ([231, 3, 2, 0], 999),
+        ([4, 0, 0, 2], 4),
+        ([0, 0, 232, 3], 0),
+        ([0, 0, 255, 255], 0),
     ] {
-        let sound = [0, 0, 1, 0];
-        expect_value_or_18(random, &pool(bytes, sound), &value, 0, good);
-        expect_value_or_18(random, &pool(sound, bytes), &value, 1, good);
+        let house = with_weeks(&value, vec![weeks, 7]);
+        expect_accepted(random, &pool(bytes, sound), &house);
+        let member = with_weeks(&value, vec![7, weeks]);
+        expect_accepted(random, &pool(sound, bytes), &member);
+    }
+    for bytes in [
+        [232, 3, 2, 0],
+        [3, 231, 2, 0],
+        [0, 4, 2, 0],
+        [255, 255, 2, 0],
+        [0, 0, 0, 0],
+    ] {
+        expect_refused(random, &pool(bytes, sound), 18, 0);
+        expect_refused(random, &pool(sound, bytes), 18, 1);
     }
 }
 
@@ -428,18 +484,18 @@ fn pools_a_and_b_byte_by_byte() {
     assert_eq!(pool_b(), b.concat());
 }
 
-/// Pools that differ in weeks and machine numbers alone are one value.
+/// Pools that differ in weeks and machine numbers alone are values that differ in weeks
+/// alone.
 #[test]
-fn weeks_and_machine_numbers_make_no_difference() {
+fn weeks_and_machine_numbers_make_no_arcs() {
     let random = &mut Random::new(126);
     for_all_sizes(|places, houses| {
         let mut records = random_records(random, places, houses);
-        let (answer, gives) = call(random, &bytes_of(&records));
-        assert_eq!(answer, Answer::accepted(places as u64, houses as u64));
+        let gives = read(&bytes_of(&records)).unwrap().gives;
         for _ in 0..4 {
             draw_weeks_and_machines(random, &mut records);
-            let other = call(random, &bytes_of(&records));
-            assert_eq!(other, (answer, gives), "{records:?}");
+            let value = value_of(&records, &gives);
+            expect_accepted(random, &bytes_of(&records), &value);
         }
     });
 }
@@ -533,9 +589,9 @@ fn length_is_tested_before_records() {
 fn arcs_at_the_edge_of_grade_and_class() {
     let random = &mut Random::new(113);
     let arcs = |giver: Record, taker: Record, random: &mut Random| {
-        let (answer, gives) = call(random, &bytes_of(&numbered([giver, taker])));
+        let (answer, read_into) = call(random, &bytes_of(&numbered([giver, taker])));
         assert_eq!(answer.number, 0);
-        gives.unwrap()[0] & 2 == 2
+        read_into.unwrap().gives[0] & 2 == 2
     };
     for grade in 0..=100 {
         for least in 0..=100 {

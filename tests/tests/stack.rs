@@ -5,7 +5,7 @@ use swapboard_tests::bench_pools::{pools_of_fourteen, BenchPool};
 use swapboard_tests::calls::{check, clear, fill_best, fill_exchanges, read_pool};
 use swapboard_tests::samples::bytes_of_pool;
 
-const STACK: usize = 64 * 1024;
+const STACK: usize = 128 * 1024;
 
 /// A thread of that size makes every call, on pools for which the search goes fourteen
 /// deep; one that overruns it ends the test.
@@ -18,7 +18,7 @@ fn stack_of_the_calls() {
         let bytes = bytes_of_pool(&pool);
         let mut value = pool.value();
         let calls = || {
-            let read = read_pool(&bytes, &mut value.gives);
+            let read = read_pool(&bytes, &mut value.gives, &mut value.weeks);
             let exchanged = fill_exchanges(&value, limits, &mut exchanges);
             let filled = fill_best(&value, &exchanges, &mut best);
             let cleared = clear(&bytes, limits, &mut exchanges, &mut best, &mut plan);

@@ -5,9 +5,10 @@ use swapboard_tests::baseline::tables as baseline;
 use swapboard_tests::bench_pools::{pools_of_fourteen, BenchPool};
 use swapboard_tests::calls::{fill_best, fill_exchanges, Answer};
 use swapboard_tests::large::{best_by_lowest_place, entry_by_search, exchanges_by_paths};
-use swapboard_tests::layout::MOST_PLACES;
+use swapboard_tests::layout::{GREATEST_WEEKS, MOST_PLACES};
 use swapboard_tests::lent::{Garbage, Lent};
 use swapboard_tests::oracle::exchange::Limits;
+use swapboard_tests::oracle::held::Held;
 use swapboard_tests::oracle::pool::{places_of, read, set_number, Pool};
 use swapboard_tests::oracle::{best, exchange};
 use swapboard_tests::pools::*;
@@ -48,13 +49,13 @@ fn expect_exchanges(
     expect_filled(answer, &table, expected, (value, limits));
 }
 
-/// Fills a best table of `room` bytes of garbage.
+/// Fills a best table of `room` entries of garbage.
 fn expect_best(
     random: &mut Random,
     value: &PoolValue,
     exchanges: &[u16],
     room: usize,
-    expected: &Result<Vec<u8>, Refusal>,
+    expected: &Result<Vec<u32>, Refusal>,
 ) {
     let mut lent_exchanges = Lent::holding(random, exchanges);
     let mut table = Lent::garbage(random, room);
@@ -86,6 +87,12 @@ fn full_entries(pool: &Pool) -> usize {
     1 << pool.places
 }
 
+/// "Best in 01's rows stays the members alone": "members × 65,536 + weeks", of weeks 0.
+fn members_alone(entry: u32) -> u32 {
+    assert_eq!(entry % 65_536, 0);
+    entry / 65_536
+}
+
 #[test]
 fn rows_of_the_document() {
     let random = &mut Random::new(201);
@@ -97,7 +104,7 @@ fn rows_of_the_document() {
         let value = pool.value();
         fill_exchanges(&value, Limits::new(lc, lp), &mut exchanges);
         fill_best(&value, &exchanges, &mut best);
-        (exchanges, usize::from(best[full_entries(pool) - 1]))
+        (exchanges, members_alone(best[full_entries(pool) - 1]))
     };
     let (entries, served) = filled(&a, 2, 2);
     let facts = [3, 6, 7, 15, 1].map(|set| entries[set]);
@@ -123,7 +130,8 @@ fn every_pool_of_up_to_three_places_at_every_limit() {
     for places in 0..=3 {
         for_every_pool(places, |pool| {
             for limits in limits_that_matter(places) {
-                compare_tables(random, pool, limits);
+                let pool = with_some_weeks(random, pool);
+                compare_tables(random, &pool, limits);
             }
         });
     }
@@ -135,7 +143,8 @@ fn every_pool_of_four_places() {
     for_every_pool(4, |pool| {
         for _ in 0..2 {
             let limits = random_limits(random, 4);
-            compare_tables(random, pool, limits);
+            let pool = with_some_weeks(random, pool);
+            compare_tables(random, &pool, limits);
         }
     });
 }
@@ -288,9 +297,9 @@ fn exchanges_by_baseline(pool: &Pool, limits: Limits) -> Vec<u16> {
 }
 
 /// The table is cleared by the call itself.
-fn best_by_baseline(pool: &Pool, marks: &[u16]) -> Vec<u8> {
-    let mut worth = vec![255; full_entries(pool)];
-    let mut table = vec![255; full_entries(pool)];
+fn best_by_baseline(pool: &Pool, marks: &[u16]) -> Vec<u32> {
+    let mut worth = vec![u32::MAX; full_entries(pool)];
+    let mut table = vec![u32::MAX; full_entries(pool)];
     let filled = baseline::fill_best(&pool.value(), marks, &mut worth, &mut table);
     assert_eq!(filled, Ok(table.len()));
     table
@@ -477,7 +486,8 @@ fn marked_sets_of_houses_only_are_worth_nothing() {
     let random = &mut Random::new(215);
     for places in 1..=8 {
         for houses in 1..=places {
-            let pool = pool_with(places, houses, vec![Vec::new(); places]);
+            let nobody_gives = pool_with(places, houses, vec![Vec::new(); places]);
+            let pool = with_some_weeks(random, &nobody_gives);
             let only_houses = |set: usize| set < 1 << houses;
             let marks: Vec<u16> = (0..1 << places)
                 .map(|set| u16::from(only_houses(set)))
@@ -493,9 +503,9 @@ fn nothing_and_everything_marked() {
     let random = &mut Random::new(216);
     for places in 0..=MOST_PLACES {
         let pool = some_pool(random, places);
-        let members = |set: usize| pool.members_in(&places_of(set)) as u8;
+        let all_of_it = |set: usize| Held::by(&pool, &places_of(set)).entry();
         let nothing = Ok(vec![0; 1 << places]);
-        let everything = Ok((0..1 << places).map(members).collect());
+        let everything = Ok((0..1 << places).map(all_of_it).collect());
         let value = pool.value();
         expect_best(random, &value, &vec![0; 1 << places], 1 << places, &nothing);
         expect_best(
@@ -508,9 +518,155 @@ fn nothing_and_everything_marked() {
     }
 }
 
+/// Visits each family of disjoint marked nonempty sets inside a set, each once, with the
+/// members and the weeks that it holds.
+fn for_each_family(
+    pool: &Pool,
+    marked: &[usize],
+    within: usize,
+    (members, weeks): (u32, u32),
+    visit: &mut impl FnMut(u32, u32),
+) {
+    let Some((&set, later)) = marked.split_first() else {
+        return visit(members, weeks);
+    };
+    for_each_family(pool, later, within, (members, weeks), visit);
+    if set & within == set {
+        let in_set = |&member: &usize| set >> member & 1 == 1;
+        let added: Vec<usize> = (pool.houses..pool.places).filter(in_set).collect();
+        let added_weeks: u32 = added
+            .iter()
+            .map(|&member| u32::from(pool.weeks[member]))
+            .sum();
+        let held = (members + added.len() as u32, weeks + added_weeks);
+        for_each_family(pool, later, within ^ set, held, visit);
+    }
+}
+
+/// An entry by its two parts: members as they are without weeks, and the most weeks among
+/// the families of so many members. Few sets are marked, so that all families can be visited,
+/// and small ones, so that many have a place in common.
+#[test]
+fn members_and_weeks_of_an_entry() {
+    let random = &mut Random::new(232);
+    let mut weeks_given_up = 0;
+    for round in 0..10_000 {
+        let places = 1 + round % 6;
+        let houses = random.between(0, places / 3);
+        let pool = pool_that_waits(random, houses, vec![Vec::new(); places]);
+        let mut marks = vec![0; 1 << places];
+        for _ in 0..random.between(0, 9) {
+            let set = [0; 3].map(|_| 1 << random.below(places));
+            marks[set[0] | set[1] | set[2]] = random_mark(random, 100);
+        }
+        let marked: Vec<usize> = (1..1 << places).filter(|&set| marks[set] != 0).collect();
+        let best = filled_best(&pool, &marks);
+        let without_weeks = filled_best(&with_weeks(&pool, vec![0; places]), &marks);
+        for (set, &entry) in best.iter().enumerate() {
+            let mut families = Vec::new();
+            for_each_family(&pool, &marked, set, (0, 0), &mut |members, weeks| {
+                families.push((members, weeks));
+            });
+            let members = families.iter().map(|family| family.0).max().unwrap();
+            let with_most = families.iter().filter(|family| family.0 == members);
+            let weeks = with_most.map(|family| family.1).max().unwrap();
+            let any_weeks = families.iter().map(|family| family.1).max().unwrap();
+            let case = (&pool, &marked, set);
+            assert_eq!(entry / 65_536, members, "{case:?}");
+            assert_eq!(entry % 65_536, weeks, "{case:?}");
+            assert_eq!(without_weeks[set], members * 65_536, "{case:?}");
+            weeks_given_up += usize::from(weeks < any_weeks);
+        }
+    }
+    assert!(weeks_given_up > 200, "only {weeks_given_up}");
+}
+
+/// What the call fills, to be compared with another call.
+fn filled_best(pool: &Pool, marks: &[u16]) -> Vec<u32> {
+    let mut best = vec![u32::MAX; full_entries(pool)];
+    let answer = fill_best(&pool.value(), marks, &mut best);
+    assert_eq!(answer, Answer::accepted(best.len() as u64, 0), "{pool:?}");
+    best
+}
+
+/// "A house's weeks count nowhere"; equal weeks are held once for each member.
+#[test]
+fn weeks_of_houses_and_equal_weeks_in_the_best_table() {
+    let random = &mut Random::new(233);
+    for places in 0..=MOST_PLACES {
+        for _ in 0..if places < 10 { 30 } else { 3 } {
+            let pool = some_pool(random, places);
+            let marks = random_marks(random, full_entries(&pool));
+            let room = full_entries(&pool);
+            let expected = Ok(filled_best(&pool, &marks));
+            let mut other = pool.clone();
+            for house in 0..pool.houses {
+                other.weeks[house] = random.pick(&GOOD_WEEKS);
+            }
+            expect_best(random, &other.value(), &marks, room, &expected);
+            let none = filled_best(&with_weeks(&pool, vec![0; places]), &marks);
+            for weeks in [1, 256, GREATEST_WEEKS] {
+                let held = |entry: &u32| entry + entry / 65_536 * u32::from(weeks);
+                let expected = Ok(none.iter().map(held).collect());
+                let equal = with_weeks(&pool, vec![weeks; places]).value();
+                expect_best(random, &equal, &marks, room, &expected);
+            }
+        }
+    }
+}
+
+/// Two marked sets with the lowest place in common: one of up to six more members, who waited
+/// longest, and one of a member more, who waited no week.
+#[test]
+fn one_member_more_comes_before_any_weeks() {
+    let random = &mut Random::new(235);
+    for few in 1..=6 {
+        let places = 2 * few + 2;
+        let mut weeks = vec![0; places];
+        weeks[1..=few].fill(GREATEST_WEEKS);
+        let long_waiting = (1 << (few + 1)) - 1;
+        let others = (1 << places) - 1 - long_waiting + 1;
+        let mut marks = vec![0; 1 << places];
+        marks[long_waiting] = 1;
+        marks[others] = 1;
+        for houses in [0, 1] {
+            let nobody_gives = pool_with(places, houses, vec![Vec::new(); places]);
+            let pool = with_weeks(&nobody_gives, weeks.clone());
+            let expected = best_by_lowest_place(&pool, &marks);
+            let members = (few + 2 - houses) as u32;
+            assert_eq!(expected[(1 << places) - 1], members * 65_536);
+            expect_best(random, &pool.value(), &marks, 1 << places, &Ok(expected));
+        }
+    }
+}
+
+/// The greatest entries there are: up to fourteen members of 999 weeks.
+#[test]
+fn the_greatest_entries() {
+    let random = &mut Random::new(234);
+    let gives = vec![Vec::new(); MOST_PLACES];
+    for houses in [0, 1, 13] {
+        let pool = pool_with(MOST_PLACES, houses, gives.clone());
+        let pool = with_weeks(&pool, vec![GREATEST_WEEKS; MOST_PLACES]);
+        let held = |set: usize| (set >> houses).count_ones() * (65_536 + 999);
+        let expected: Vec<u32> = (0..1 << MOST_PLACES).map(held).collect();
+        let alone = |set: usize| u16::from(set.is_power_of_two());
+        let marks: Vec<u16> = (0..1 << MOST_PLACES).map(alone).collect();
+        let room = wide_room(random, &pool);
+        expect_best(random, &pool.value(), &marks, room, &Ok(expected));
+    }
+}
+
 /// Room for exactly the entries, more, and less down to none.
 fn rooms_around(random: &mut Random, entries: usize) -> Vec<usize> {
-    let mut rooms = vec![0, entries / 2, entries - 1, entries, entries + 1];
+    let mut rooms = vec![
+        0,
+        entries / 4,
+        entries / 2,
+        entries - 1,
+        entries,
+        entries + 1,
+    ];
     rooms.push(2 * entries);
     rooms.push(entries + random.between(1, 300));
     rooms
@@ -534,8 +690,8 @@ fn rooms_of_the_exchange_table() {
     }
 }
 
-/// Both tables lent shorter and longer; entries of the exchange table beyond the
-/// needed ones are garbage and must not be read.
+/// Both tables lent shorter and longer, in entries and not in bytes; entries of the exchange
+/// table beyond the needed ones are garbage and must not be read.
 #[test]
 fn rooms_of_the_best_table() {
     let random = &mut Random::new(218);
@@ -560,7 +716,7 @@ fn rooms_of_the_best_table() {
 }
 
 /// Both filling calls, with tables of the given room, must refuse with 6.
-fn expect_bad_value(value: &PoolValue, exchanges: &mut Lent<u16>, best: &mut Lent<u8>) {
+fn expect_bad_value(value: &PoolValue, exchanges: &mut Lent<u16>, best: &mut Lent<u32>) {
     let refusal = Refusal { number: 6, at: 0 };
     assert_eq!(Pool::of_value(value), Err(refusal), "{value:?}");
     let answer = fill_best(value, exchanges.contents(), best.part());
@@ -594,6 +750,65 @@ fn every_arc_astray_is_refused() {
     }
 }
 
+/// Of houses and members alike, and of places that aren't there.
+#[test]
+fn weeks_outside_their_range_are_refused() {
+    let random = &mut Random::new(229);
+    let exchanges = &mut Lent::garbage(random, 1 << 14);
+    let best = &mut Lent::garbage(random, 1 << 14);
+    for places in 0..=MOST_PLACES {
+        for houses in 0..=places {
+            let gives = random_shape(random, places, houses);
+            let good = pool_that_waits(random, houses, gives).value();
+            for value in values_of_bad_weeks(&good) {
+                expect_bad_value(&value, exchanges, best);
+            }
+        }
+    }
+}
+
+/// Every number as the weeks of a house, of a member and of a place that isn't there.
+#[test]
+fn every_value_of_weeks() {
+    let random = &mut Random::new(230);
+    let good = pool_with(2, 1, vec![vec![1], vec![]]).value();
+    let limits = Limits::new(1, 1);
+    let exchanges = [0, 0, 0, 2];
+    for weeks in 0..=u16::MAX {
+        for (place, greatest) in [(0, 999), (1, 999), (2, 0), (13, 0)] {
+            let mut value = good;
+            value.weeks[place] = weeks;
+            let served = if place == 1 { weeks.into() } else { 0 };
+            let (table, best) = if weeks <= greatest {
+                let held = vec![0, 0, 0, 65_536 + served];
+                (Ok(exchanges.to_vec()), Ok(held))
+            } else {
+                (refuse(6, 0), refuse(6, 0))
+            };
+            expect_exchanges(random, &value, limits, 4, &table);
+            expect_best(random, &value, &exchanges, 4, &best);
+        }
+    }
+}
+
+/// Weeks at their edges, of houses and members alike: the exchange table stays the same.
+#[test]
+fn weeks_make_no_difference_to_the_exchange_table() {
+    let random = &mut Random::new(231);
+    for places in 0..=MOST_PLACES {
+        for _ in 0..if places < 10 { 10 } else { 2 } {
+            let pool = some_pool(random, places);
+            let limits = random_limits(random, places);
+            let without = with_weeks(&pool, vec![0; places]);
+            let expected = Ok(exchanges_by_baseline(&without, limits));
+            let room = full_entries(&pool);
+            for value in values_of_good_weeks(&pool.value()) {
+                expect_exchanges(random, &value, limits, room, &expected);
+            }
+        }
+    }
+}
+
 #[test]
 fn too_many_places_or_houses_are_refused() {
     let random = &mut Random::new(220);
@@ -606,6 +821,7 @@ fn too_many_places_or_houses_are_refused() {
                 places,
                 houses,
                 gives: none,
+                weeks: none,
             };
             expect_bad_value(&value, exchanges, best);
         }
@@ -616,6 +832,7 @@ fn too_many_places_or_houses_are_refused() {
                 places,
                 houses,
                 gives: none,
+                weeks: none,
             };
             expect_bad_value(&value, exchanges, best);
         }
@@ -642,10 +859,19 @@ fn order_of_causes() {
     let random = &mut Random::new(222);
     for places in 1..=10 {
         let good = some_pool(random, places).value();
-        let mut bad = good;
-        bad.gives[random.below(places)] |= 1 << random.between(places, 15);
+        let mut astray = good;
+        astray.gives[random.below(places)] |= 1 << random.between(places, 15);
+        let mut beyond = good;
+        beyond.weeks[random.below(places)] = random.pick(&BAD_WEEKS);
+        let mut absent = good;
+        absent.weeks[random.between(places, 13)] = random.pick(&[1, GREATEST_WEEKS]);
         let entries = 1usize << places;
-        for (value, bad_value) in [(&good, false), (&bad, true)] {
+        for (value, bad_value) in [
+            (&good, false),
+            (&astray, true),
+            (&beyond, true),
+            (&absent, true),
+        ] {
             for (limits, bad_limits) in [(Limits::new(2, 2), false), (Limits::new(2, 15), true)] {
                 for room in [entries - 1, entries] {
                     let expected = match (bad_value, bad_limits, room < entries) {
@@ -676,6 +902,16 @@ fn order_of_causes() {
     }
 }
 
+/// Mostly good, else with one number of any bits at any place.
+fn random_weeks_of_value(random: &mut Random, places: usize) -> [u16; MOST_PLACES] {
+    let mut weeks = [0; MOST_PLACES];
+    weeks[..places].copy_from_slice(&weeks_of_places(random, places));
+    if random.chance(10) {
+        weeks[random.below(MOST_PLACES)] = random.number() as u16 >> random.below(16);
+    }
+    weeks
+}
+
 /// Values of random bits are mostly refused, and never half filled.
 #[test]
 fn random_values() {
@@ -697,6 +933,7 @@ fn random_values() {
             places,
             houses,
             gives,
+            weeks: random_weeks_of_value(random, places.into()),
         };
         let limits = Limits::new(random.between(0, 15) as u8, random.between(0, 15) as u8);
         let room = random.between(20, 40);

@@ -19,8 +19,8 @@ poolAnswer (accepted p) = acceptedWith (p .size) (p .altruists)
 poolAnswer (refused number at) = refusedWith number at
 
 -- the pool value that C tells by its parts
-abbrev pub poolFrom : ℕ → ℕ → List ℕ → Pool
-poolFrom places houses gives = record { size = places; altruists = houses; gives = gives }
+abbrev pub poolFrom : ℕ → ℕ → List ℕ → List ℕ → Pool
+poolFrom places houses gives weeks = record { size = places; altruists = houses; gives = gives; weeks = weeks }
 
 -- a count: the entries written, or the members served
 abbrev pub countAnswer : Outcome ℕ → Answer

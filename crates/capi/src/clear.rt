@@ -8,14 +8,14 @@ ghost use Rattle.clearing.specs.Clearing.{clearedOutcome, clearable};
 ghost use Rattle.clearing.specs.computed.Cleared.{clearOutcome, exchangesCleared, bestCleared, planCleared};
 ghost use Rattle.capi.specs.Answers.{clearAnswer};
 
-// Members served and records written, of the plan that serves most and comes first.
+// Members served and records written, of the best plan: most members, then most weeks, then the records that come first.
 #[no_mangle]
 pub extern "C" fn swap_clear(
     pool: &[u8],
     lc: u8,
     lp: u8,
     exchanges: &mut [u16],
-    best: &mut [u8],
+    best: &mut [u32],
     plan: &mut [u8],
 ) -> Answer
     ensures answer { λ r. ⌜ r ≡ clearAnswer (clearOutcome (limitsOf lc lp) (clearable (now (pool .entry)) (limitsOf lc lp) (now (exchanges .entry)) (now (best .entry)) (now (plan .entry)))) ⌝ }

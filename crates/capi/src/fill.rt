@@ -15,19 +15,15 @@ pub extern "C" fn swap_fill_exchanges(
     places: u8,
     houses: u8,
     gives: &[u16; 14],
+    weeks: &[u16; 14],
     lc: u8,
     lp: u8,
     table: &mut [u16],
 ) -> Answer
-    ensures answer { λ r. ⌜ r ≡ countAnswer (exchangesOutcome (poolFrom places houses (now (gives .entry))) (limitsOf lc lp) (now (table .entry))) ⌝ }
-    ensures left { λ _. ⌜ now (table .exit) ≡ exchangesLeft (poolFrom places houses (now (gives .entry))) (limitsOf lc lp) (now (table .entry)) ⌝ }
+    ensures answer { λ r. ⌜ r ≡ countAnswer (exchangesOutcome (poolFrom places houses (now (gives .entry)) (now (weeks .entry))) (limitsOf lc lp) (now (table .entry))) ⌝ }
+    ensures left { λ _. ⌜ now (table .exit) ≡ exchangesLeft (poolFrom places houses (now (gives .entry)) (now (weeks .entry))) (limitsOf lc lp) (now (table .entry)) ⌝ }
 {
-    let sets = *gives;
-    let value = Pool {
-        size: places,
-        altruists: houses,
-        gives: sets,
-    };
+    let value = pool_from(places, houses, gives, weeks);
     let limits = Limits {
         cycle: lc,
         chain: lp,
@@ -42,20 +38,30 @@ pub extern "C" fn swap_fill_best(
     places: u8,
     houses: u8,
     gives: &[u16; 14],
+    weeks: &[u16; 14],
     exchanges: &[u16],
-    table: &mut [u8],
+    table: &mut [u32],
 ) -> Answer
-    ensures answer { λ r. ⌜ r ≡ countAnswer (bestOutcome (poolFrom places houses (now (gives .entry))) (now (exchanges .entry)) (now (table .entry))) ⌝ }
-    ensures left { λ _. ⌜ now (table .exit) ≡ bestLeft (poolFrom places houses (now (gives .entry))) (now (exchanges .entry)) (now (table .entry)) ⌝ }
+    ensures answer { λ r. ⌜ r ≡ countAnswer (bestOutcome (poolFrom places houses (now (gives .entry)) (now (weeks .entry))) (now (exchanges .entry)) (now (table .entry))) ⌝ }
+    ensures left { λ _. ⌜ now (table .exit) ≡ bestLeft (poolFrom places houses (now (gives .entry)) (now (weeks .entry))) (now (exchanges .entry)) (now (table .entry)) ⌝ }
+{
+    let value = pool_from(places, houses, gives, weeks);
+    let filled = tables::fill_best(value, exchanges, table);
+    answer_filled(filled)
+}
+
+// The pool value that C tells by its parts.
+fn pool_from(places: u8, houses: u8, gives: &[u16; 14], weeks: &[u16; 14]) -> Pool
+    ensures { λ r. ⌜ r ≡ poolFrom places houses (now (gives .entry)) (now (weeks .entry)) ⌝ }
 {
     let sets = *gives;
-    let value = Pool {
+    let waited = *weeks;
+    Pool {
         size: places,
         altruists: houses,
         gives: sets,
-    };
-    let filled = tables::fill_best(value, exchanges, table);
-    answer_filled(filled)
+        weeks: waited,
+    }
 }
 
 fn answer_filled(filled: Filled) -> Answer

@@ -14,7 +14,7 @@ use Rattle.kep.specs.computed.Table.{bestOf}
 use Rattle.kep.specs.Plan.{recordForm, FitRecords}
 use Rattle.pool.specs.Refusals.{Outcome, accepted, refused, tested, andThen}
 use Rattle.reading.specs.Records.{readPool}
-use Rattle.pool.specs.Value.{graphOf, poolFits}
+use Rattle.pool.specs.Value.{graphOf, weeksIn, poolFits}
 use Rattle.tables.specs.Calls.{worthIn}
 use Rattle.plans.specs.Check.{LegalForm}
 use Rattle.clearing.specs.Clearing.{clearableValue, clearable}
@@ -27,7 +27,7 @@ use Rattle.kep.proofs.FewExchanges.{legal-few}
 use Rattle.pool.proofs.Tested.{passes, not-both}
 use Rattle.pool.specs.Causes.{Pass, FirstFails}
 use Rattle.pool.proofs.Causes.{same-given, alone-refused, alone-accepted, then-refused, then-accepted}
-use Rattle.pool.proofs.ValueLaws.{fits-size}
+use Rattle.pool.proofs.ValueLaws.{fits-size, few-weeks}
 use Rattle.reading.proofs.ReadPool.{read-fits}
 use Rattle.plans.proofs.Checked.{legal-listed, legal-counts}
 use Rattle.clearing.proofs.ChoosingCode.{form-length}
@@ -61,8 +61,8 @@ module _ (p : Pool) (l : Limits) (lent : Lent) (pass : Passed p l (lent .exchang
 
   passed-clears : Clears p l count (length (planOf p l)) lent (left l (accepted p) lent)
   passed-clears =
-      let optimum = answer-is-optimum (graphOf p) (l .cycle) (l .chain) in
-      let legal : LegalForm (graphOf p) (l .cycle) (l .chain) form count = optimum .best .legal in
+      let optimum = answer-is-optimum (graphOf p) (l .cycle) (l .chain) (weeksIn p) (few-weeks p (pass .fits)) in
+      let legal : LegalForm (graphOf p) (l .cycle) (l .chain) form count = let b = optimum .best in (b .plan, b .allowed .0, b .allowed .1, b .allowed .2) in
       let many : length form / 16 ≡ length (planOf p l) = omega (arith, form-long) in
       record {
         pool-fits = pass .fits;
@@ -76,7 +76,7 @@ module _ (p : Pool) (l : Limits) (lent : Lent) (pass : Passed p l (lent .exchang
         summed = rw front (legal-counts (graphOf p) (l .cycle) (l .chain) fit form count legal);
         exchange-table = written-exchanges p l (pass .fits) (lent .exchanges) (pass .exchanges-long);
         best-table =
-            written-best p (exchangesOf p l (lent .exchanges)) (lent .best) (pass .best-long) (bestOf (worthIn p) (graphOf p) (l .cycle) (l .chain))
+            written-best p (pass .fits) (exchangesOf p l (lent .exchanges)) (lent .best) (pass .best-long) (bestOf (worthIn p) (graphOf p) (l .cycle) (l .chain))
             (bests-agree p l (pass .fits) (lent .exchanges) refl);
         last-entry = last-served p l (pass .fits) (lent .best) refl;
         checked = λ bytes read. rw front (accepts-legal bytes l form count .1 (record { pool = p; read = read; limits-fit = pass .within; legal = legal }));

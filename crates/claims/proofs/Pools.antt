@@ -11,9 +11,9 @@ use Rattle.kep.specs.Graph.{isAltruist, isMember, WellFormed}
 use Rattle.pool.specs.Refusals.{accepted}
 use Rattle.reading.specs.Records.{readPool, GivesTo}
 use Rattle.reading.specs.Fields.{recordWidth, tellsHouse, tellsMember, classOf, gradeOf, leastOf, takenOf, weeksOf, machineOf, poolRecords}
-use Rattle.pool.specs.Value.{graphOf, poolFits}
+use Rattle.pool.specs.Value.{graphOf, weeksIn, poolFits}
 use Rattle.kep.specs.Plan.{FitRecords}
-use Rattle.reading.proofs.ReadPool.{read-size, read-passed, read-fits, read-formed, read-arcs}
+use Rattle.reading.proofs.ReadPool.{read-size, read-passed, read-fits, read-formed, read-weeks, read-arcs}
 use Rattle.reading.proofs.Houses.{read-altruists, read-members, read-members-count}
 use Rattle.claims.proofs.CheckerLaws.{read-fit-records}
 
@@ -47,6 +47,10 @@ module _ (bytes : List ℕ) {p : Pool} (read : readPool bytes ≡ accepted p) wh
   -- Of every place the weeks waited are 0 to 999, and the machine has a number other than 0.
   pub weeks-in-range : (u : ℕ) → u < p .size → weeksOf (getD (poolRecords bytes) u []) ≤ 999
   weeks-in-range u there = read-passed bytes read u there .weeks
+
+  -- The pool value has them, of houses too.
+  pub weeks-by-record : (u : ℕ) → u < p .size → weeksIn p u ≡ weeksOf (getD (poolRecords bytes) u [])
+  weeks-by-record u there = read-weeks bytes read u there
 
   pub machines-numbered : (u : ℕ) → u < p .size → 0 < machineOf (getD (poolRecords bytes) u [])
   machines-numbered u there = read-passed bytes read u there .machine

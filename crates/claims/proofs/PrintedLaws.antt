@@ -19,7 +19,7 @@ use Rattle.kep.specs.Plan.{isLegal, inOrder, recordOf, recordForm, FitRecords}
 use Rattle.pool.specs.Refusals.{accepted, refused}
 use Rattle.pool.specs.Limits.{limitsFit}
 use Rattle.reading.specs.Records.{readPool}
-use Rattle.pool.specs.Value.{graphOf}
+use Rattle.pool.specs.Value.{graphOf, weeksIn}
 use Rattle.tables.specs.Calls.{worthIn}
 use Rattle.plans.specs.Check.{recordsIn}
 use Rattle.clearing.specs.computed.Cleared.{planOf}
@@ -34,6 +34,8 @@ use Rattle.kep.proofs.Answer.{answer-legal, in-order-form}
 use Rattle.kep.proofs.Canonical.{plan-legal, legal-plan, plan-in-order}
 use Rattle.pool.specs.Causes.{FirstFails}
 use Rattle.pool.proofs.Causes.{alone-refused, alone-accepted, then-refused, then-accepted}
+use Rattle.pool.proofs.ValueLaws.{few-weeks}
+use Rattle.reading.proofs.ReadPool.{read-fits}
 use Rattle.reading.proofs.Houses.{read-members-count}
 use Rattle.plans.proofs.Records.{record-kind}
 use Rattle.plans.proofs.CheckRecord.{exchange-back}
@@ -99,7 +101,7 @@ module _ (pool limits : List ℕ) where
         legal = plan-legal g lc lp ordered;
         in-order = plan-in-order g lc lp ordered;
         serves = in-order-total (memberWorth g) q;
-        optimum = rw same (answer-is-optimum g lc lp);
+        optimum = rw same (answer-is-optimum g lc lp (weeksIn p) (few-weeks p (read-fits (counted pool) (known .0))));
         text = ap (λ o. outcomeText o (limitsIn limits)) e ∙ ap₂ (λ m ls. servedLine (served g (flat q)) m ++ ls) (read-members-count (counted pool) (known .0)) (lines q legal);
       }
     where

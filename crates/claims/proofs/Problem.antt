@@ -11,10 +11,10 @@ use mathlib.Core.Path.{_≡_}
 use Prim.Native.Nat.{ℕ, _^_, _≤_, _<_}
 use lib.Dec.{T}
 use Rattle.kep.specs.Lists.{total, flat}
-use Rattle.kep.specs.Sets.{has, setOf}
+use Rattle.kep.specs.Sets.{has, setOf, worthOf}
 use Rattle.kep.specs.Graph.{Graph, WellFormed}
 use Rattle.kep.specs.Exchange.{isExchange}
-use Rattle.kep.specs.Table.{CanEnd, Family, memberWorth, served}
+use Rattle.kep.specs.Table.{CanEnd, Family, memberWorth, weeksWorth, memberWeeks, perMember, served}
 use Rattle.kep.specs.computed.Table.{entry, best, bestOf, everything}
 use Rattle.kep.specs.Plan.{isLegal, recordForm, Best, Optimum, FitRecords}
 use Rattle.kep.specs.computed.Answer.{answer}
@@ -22,8 +22,9 @@ use Rattle.pool.specs.Refusals.{accepted, refused}
 use Rattle.plans.specs.Check.{check, LegalForm}
 use Rattle.kep.proofs.EntryMeaning.{entry-ends, entry-some, entry-empty, entry-altruist}
 use Rattle.kep.proofs.BestTable.{best-attained, best-bound, best-unique}
-use Rattle.kep.proofs.Answer.{answer-best, zero-clause, member-worthy, best-determines}
-use Rattle.kep.proofs.BestPlan.{best-count}
+use Rattle.kep.proofs.Answer.{member-worthy}
+use Rattle.kep.proofs.BestPlan.{weeks-most}
+use Rattle.kep.proofs.Weeks.{only-best, weeks-optimum}
 use Rattle.kep.proofs.OneForm.{retold-legal, one-form, one-total}
 use Rattle.kep.specs.Retold.{Retold}
 use Rattle.kep.proofs.Retelling.{same-order-retold}
@@ -51,20 +52,21 @@ module _ (g : Graph) (lc lp : ℕ) where
 
   -- ---- the answer
 
-  -- Of the definition that clearing answers with: it is a legal plan, none serves more, none that serves as many has a record form that
-  -- comes first, and it serves nobody exactly where there is no cycle and no chain.
-  pub answer-is-optimum : let p = answer (memberWorth g) g lc lp in Optimum g lc lp (recordForm g p) (served g (flat p))
-  answer-is-optimum =
-      let b = answer-best g lc lp (memberWorth g) in
-      record { best = b; zero-clause = zero-clause g lc lp (member-worthy g lc lp) b }
+  -- Where the weeks in any set are less than a member counts, as in every pool value that is accepted (`few-weeks`, pool, proofs/ValueLaws):
+  module _ (weeks : ℕ → ℕ) (few : (s : ℕ) → worthOf (weeksWorth g weeks) (g .size) s < perMember) where
+    -- Of the definition that clearing answers with: it is a legal plan, none serves more, none that serves as many has more weeks, none that also has as
+    -- many has a record form that comes first, and it serves nobody exactly where there is no cycle and no chain.
+    pub answer-is-optimum : let p = answer (memberWeeks g weeks) g lc lp in Optimum g weeks lc lp (recordForm g p) (served g (flat p))
+    answer-is-optimum = weeks-optimum g weeks few lc lp
 
-  -- It serves as many as the best table holds for all vertices.
-  pub answer-is-last-entry : served g (flat (answer (memberWorth g) g lc lp)) ≡ bestOf (memberWorth g) g lc lp (everything g)
-  answer-is-last-entry = best-count g lc lp (memberWorth g) (answer-best g lc lp (memberWorth g))
+    -- It serves as many as the best table of members alone holds for all vertices: weeks choose between plans, and cost nobody the machine.
+    pub answer-serves-most : served g (flat (answer (memberWeeks g weeks) g lc lp)) ≡ bestOf (memberWorth g) g lc lp (everything g)
+    answer-serves-most = weeks-most g lc lp (answer-is-optimum .best)
 
-  -- What is best is one, records and count, for any worth of the vertices.
-  pub best-is-one : {w : ℕ → ℕ} {r r′ : List ℕ} {c c′ : ℕ} → Best w g lc lp r c → Best w g lc lp r′ c′ → (r ≡ r′) × (c ≡ c′)
-  best-is-one b b′ = best-determines b b′
+  -- What is best of the plans allowed is one, records and count.
+  pub best-is-one : {Allowed : List (List ℕ) → Type 0} {weeks : ℕ → ℕ} {r r′ : List ℕ} {c c′ : ℕ}
+      → Best Allowed g weeks r c → Best Allowed g weeks r′ c′ → (r ≡ r′) × (c ≡ c′)
+  best-is-one b b′ = only-best b b′
 
   -- ---- the record form
 

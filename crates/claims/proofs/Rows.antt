@@ -10,7 +10,7 @@ use Rattle.kep.specs.computed.Answer.{sublists, plans, better, pick, answer}
 use Rattle.kep.specs.Sets.{setOf, has, setWhere, worthOf}
 use Rattle.pool.specs.Refusals.{accepted, refused, tested}
 use Rattle.pool.specs.Limits.{limitsOf}
-use Rattle.pool.specs.Value.{graphOf, emptyPool}
+use Rattle.pool.specs.Value.{graphOf, emptyPool, takersFit, arcsFit, weeksFit, testPool}
 use Rattle.reading.specs.Records.{fieldTests, recordsTested, readPool}
 use Rattle.reading.specs.computed.Pool.{recordGives, takersOf, poolOf}
 use Rattle.kep.specs.computed.Arrangements.{concatMap, remove, arrangements}
@@ -19,6 +19,7 @@ use Rattle.kep.specs.Table.{lowestFirst, memberWorth, served}
 use Rattle.kep.specs.computed.Table.{exchanges, endsAt, some, entry, marks, markedParts, greatestOf, most, best}
 use Rattle.kep.specs.Plan.{insert, inOrder, kindOf, recordOf, recordsOf, recordForm}
 use Rattle.plans.specs.Check.{listed, verticesOf}
+use Rattle.tables.specs.Calls.{setWorth}
 use Rattle.clearing.specs.computed.Cleared.{planOf}
 use Rattle.report.specs.Text.{kindWord, digits, decimal, placeText, placesText, recordLine, recordLines, planText, outcomeText, printed, wholeText, counted, textOf}
 
@@ -40,7 +41,7 @@ poolA =
 
 -- arcs 0→1, 1→2, 2→1, 2→3, 3→4, 4→3, 4→5
 unfoldable pub valueA : Pool
-valueA = record { size = 6; altruists = 1; gives = 2 ∷ 4 ∷ 10 ∷ 16 ∷ 40 ∷ 0 ∷ 0 ∷ 0 ∷ 0 ∷ 0 ∷ 0 ∷ 0 ∷ 0 ∷ 0 ∷ [] }
+valueA = record { size = 6; altruists = 1; gives = 2 ∷ 4 ∷ 10 ∷ 16 ∷ 40 ∷ 0 ∷ 0 ∷ 0 ∷ 0 ∷ 0 ∷ 0 ∷ 0 ∷ 0 ∷ 0 ∷ []; weeks = replicate 14 0 }
 
 unfoldable pub poolB : List ℕ
 unfolding placed
@@ -52,7 +53,11 @@ poolB =
 
 -- arcs 0→1, 1→2, 2→0, 0→3, 3→0, 2→1
 unfoldable pub valueB : Pool
-valueB = record { size = 4; altruists = 0; gives = 10 ∷ 4 ∷ 3 ∷ 1 ∷ 0 ∷ 0 ∷ 0 ∷ 0 ∷ 0 ∷ 0 ∷ 0 ∷ 0 ∷ 0 ∷ 0 ∷ [] }
+valueB = record { size = 4; altruists = 0; gives = 10 ∷ 4 ∷ 3 ∷ 1 ∷ 0 ∷ 0 ∷ 0 ∷ 0 ∷ 0 ∷ 0 ∷ 0 ∷ 0 ∷ 0 ∷ 0 ∷ []; weeks = replicate 14 0 }
+
+-- three members, of whom 0 can swap with 1 or with 2; the last has waited so many weeks
+unfoldable pub star : ℕ → Pool
+star weeks = record { size = 3; altruists = 0; gives = 6 ∷ 1 ∷ 1 ∷ replicate 11 0; weeks = 0 ∷ 0 ∷ weeks ∷ replicate 11 0 }
 
 -- a member of class 1 and grade 50 whose least grade is given, and who takes class 1
 unfoldable pub member : ℕ → List ℕ
@@ -107,6 +112,12 @@ pub rows :
     × (bestServed valueB 3 0 ≡ 4)
     × (plan valueB 3 0 ≡ (0 ∷ 3 ∷ []) ∷ (1 ∷ 2 ∷ []) ∷ [])
     × (best (worthOf (memberWorth (graphOf valueB)) 4) (marks (graphOf valueB) 3 0) 15 ≡ 4)
+    -- weeks between plans that serve as many: the records decide where nobody has waited; an entry tells both; weeks above 999 are refused
+    × (plan (star 0) 2 0 ≡ (0 ∷ 1 ∷ []) ∷ [])
+    × (plan (star 5) 2 0 ≡ (0 ∷ 2 ∷ []) ∷ [])
+    × (best (setWorth (star 5)) (marks (graphOf (star 5)) 2 0) 7 ≡ 131077)
+    × (testPool (star 999) ≡ accepted (star 999))
+    × (testPool (star 1000) ≡ refused 6 0)
     -- empty, 3, 3
     × (bestServed emptyPool 3 3 ≡ 0)
     -- grade 50, least 50: arc; least 51: none
@@ -140,9 +151,9 @@ pub rows :
     ≡ 114 ∷ 101 ∷ 102 ∷ 117 ∷ 115 ∷ 101 ∷ 100 ∷ 32 ∷ 49 ∷ 56 ∷ 32 ∷ 48 ∷ 10 ∷ []
     )
 unfolding
-    all elem distinct keep upto total tabulate cut setOf has setWhere worthOf tested fieldTests recordsTested recordGives takersOf poolOf readPool
+    takersFit arcsFit weeksFit testPool all elem distinct keep upto total tabulate cut setOf has setWhere worthOf tested fieldTests recordsTested recordGives takersOf poolOf readPool
     concatMap remove arrangements walk lastOf isCycle isChain isExchange turnedBy turned headOf lowestFirst exchanges endsAt some entry marks markedParts
-    greatestOf most best flat sublists before insert inOrder kindOf recordOf recordsOf recordForm plans better pick answer placed poolA valueA poolB valueB member plan bestServed entryOf
+    greatestOf most best flat sublists before insert inOrder kindOf recordOf recordsOf recordForm plans better pick answer placed poolA valueA poolB valueB star member plan bestServed entryOf
     listed verticesOf kindWord digits decimal placeText placesText recordLine recordLines planText outcomeText printed wholeText
 rows =
-    (refl, refl, refl, refl, refl, refl, refl, refl, refl, refl, refl, refl, refl, refl, refl, refl, refl, refl, refl, refl, refl, refl, refl, refl, refl, refl, refl, refl, refl, refl, refl, refl, refl, refl, refl, refl)
+    (refl, refl, refl, refl, refl, refl, refl, refl, refl, refl, refl, refl, refl, refl, refl, refl, refl, refl, refl, refl, refl, refl, refl, refl, refl, refl, refl, refl, refl, refl, refl, refl, refl, refl, refl, refl, refl, refl, refl, refl, refl)

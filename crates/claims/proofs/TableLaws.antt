@@ -12,16 +12,16 @@ use Rattle.pool.specs.declared.limits.Limits.{Limits}
 use Rattle.kep.specs.Lists.{tabulate, writtenTo}
 use Rattle.kep.specs.computed.Table.{entry, best}
 use Rattle.pool.specs.Refusals.{accepted}
-use Rattle.pool.specs.Value.{graphOf, poolFits}
-use Rattle.tables.specs.Calls.{marked, membersIn, bestTests, bestOutcome, bestLeft}
+use Rattle.pool.specs.Value.{graphOf, weeksIn, poolFits}
+use Rattle.tables.specs.Calls.{marked, setWorth, bestTests, bestOutcome, bestLeft}
 use Rattle.exchanges.specs.ExchangesCall.{exchangesTests, exchangesOutcome, exchangesLeft}
 use Rattle.claims.specs.Tables.{ExchangeTable, BestTable}
 use Rattle.kep.proofs.Each.{each-first, each-rest}
 use Rattle.kep.proofs.Tables.{getD-tabulate, length-tabulate}
 use Rattle.kep.proofs.EntryMeaning.{entry-ends, entry-some, entry-empty, entry-altruist}
-use Rattle.kep.proofs.BestTable.{best-attained, best-bound}
+use Rattle.kep.proofs.Weeks.{weeks-held}
 use Rattle.pool.proofs.Causes.{alone-accepted}
-use Rattle.pool.proofs.ValueLaws.{fits-altruists}
+use Rattle.pool.proofs.ValueLaws.{fits-altruists, few-weeks}
 
 -- ---- a table whose first k entries were written with the values of f
 
@@ -52,11 +52,10 @@ written-exchanges p l fits old long =
     }
 
 -- with the best of an exchange table's marks, by whatever name f
-pub written-best : (p : Pool) (exchanges old : List ℕ) → 2 ^ p .size ≤ length old
-    → (f : ℕ → ℕ) → ((s : ℕ) → s < 2 ^ p .size → best (membersIn p) (marked exchanges) s ≡ f s) → BestTable p exchanges old (writtenTo f (2 ^ p .size) old)
-written-best p exchanges old long f same = record {
-  attained = λ s h. rw (written-at f (2 ^ p .size) old h, ← same s h) (best-attained (membersIn p) (marked exchanges) s);
-  greatest = λ s h family. rw (written-at f (2 ^ p .size) old h, ← same s h) (best-bound (membersIn p) (marked exchanges) family);
+pub written-best : (p : Pool) → T (poolFits p) → (exchanges old : List ℕ) → 2 ^ p .size ≤ length old
+    → (f : ℕ → ℕ) → ((s : ℕ) → s < 2 ^ p .size → best (setWorth p) (marked exchanges) s ≡ f s) → BestTable p exchanges old (writtenTo f (2 ^ p .size) old)
+written-best p fits exchanges old long f same = record {
+  entries = λ s h. rw (written-at f (2 ^ p .size) old h, ← same s h) (weeks-held (graphOf p) (weeksIn p) (few-weeks p fits) (marked exchanges) s);
   beyond = written-beyond f (2 ^ p .size) old;
   as-long = written-long f (2 ^ p .size) old long;
 }
@@ -75,14 +74,14 @@ module _ (p : Pool) (l : Limits) (table : List ℕ) {k : ℕ} (filled : exchange
   exchanges-left = let (fits, long, count) = exchanges-tests in (sym count, rw filled (written-exchanges p l fits table long))
 
 module _ (p : Pool) (exchanges table : List ℕ) {k : ℕ} (filled : bestOutcome p exchanges table ≡ accepted k) where
-  best-tests : (2 ^ p .size ≤ length table) × (2 ^ p .size ≡ k)
+  best-tests : T (poolFits p) × (2 ^ p .size ≤ length table) × (2 ^ p .size ≡ k)
   unfolding bestOutcome
   best-tests =
       let (six, count) = alone-accepted (2 ^ p .size) (bestTests p exchanges table) 0 .0 filled in
-      (leb→le (2 ^ p .size) (length table) (each-first (each-rest (each-rest six))), count)
+      (each-first six, leb→le (2 ^ p .size) (length table) (each-first (each-rest (each-rest six))), count)
 
   pub best-left : (k ≡ 2 ^ p .size) × BestTable p exchanges table (bestLeft p exchanges table)
   unfolding bestLeft
   best-left =
-      let (long, count) = best-tests in
-      (sym count, rw filled (written-best p exchanges table long (best (membersIn p) (marked exchanges)) (λ s h. refl)))
+      let (fits, long, count) = best-tests in
+      (sym count, rw filled (written-best p fits exchanges table long (best (setWorth p) (marked exchanges)) (λ s h. refl)))

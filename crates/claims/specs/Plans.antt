@@ -2,7 +2,7 @@
 use mathlib.Core.Bool.{Bool}
 use mathlib.Core.List.{List, [], _∷_, _++_}
 use mathlib.Core.Path.{_≡_}
-use Prim.Native.Nat.{ℕ, suc, _*_, _%_, _≤_}
+use Prim.Native.Nat.{ℕ, suc, _*_, _/_, _%_, _≤_}
 use lib.Dec.{T, eqb}
 use lib.ListN.{length, take, drop, getD}
 use Rattle.pool.specs.declared.value.Pool.{Pool}
@@ -10,13 +10,13 @@ use Rattle.pool.specs.declared.limits.Limits.{Limits}
 use Rattle.kep.specs.Lists.{flat}
 use Rattle.kep.specs.Graph.{Graph}
 use Rattle.kep.specs.Exchange.{headOf}
-use Rattle.kep.specs.Table.{served}
+use Rattle.kep.specs.Table.{served, perMember}
 use Rattle.kep.specs.computed.Table.{everything}
 use Rattle.kep.specs.Plan.{Optimum}
 use Rattle.pool.specs.Refusals.{Outcome, accepted}
 use Rattle.pool.specs.Limits.{limitsFit}
 use Rattle.reading.specs.Records.{readPool}
-use Rattle.pool.specs.Value.{graphOf, poolFits}
+use Rattle.pool.specs.Value.{graphOf, weeksIn, poolFits}
 use Rattle.plans.specs.Check.{verticesOf, recordsIn, listsIn, counts, fresh, recordTests, LegalForm}
 use Rattle.plans.specs.CheckCall.{checkOutcome}
 use Rattle.clearing.specs.Clearing.{clearTests, clearableValue, clearable}
@@ -83,16 +83,17 @@ pub record Clears (p : Pool) (l : Limits) (k r : ℕ) (before after : Lent) : Ty
   pub room : 16 * r ≤ length (before .plan)
   pub beyond : drop (16 * r) (after .plan) ≡ drop (16 * r) (before .plan)
   pub as-long : length (after .plan) ≡ length (before .plan)
-  -- These bytes are the record form of a legal plan that serves k (`.best .legal`). No legal plan, told in any order with rings begun anywhere,
-  -- serves more (`.best .greatest`). Of those that serve as many none has a record form that comes before these bytes (`.best .first`).
-  -- Nobody is served exactly where there is no ring and no chain (`.zero-clause`).
-  pub optimum : Optimum (graphOf p) (l .cycle) (l .chain) (take (16 * r) (after .plan)) k
+  -- These bytes are the record form of a legal plan that serves k (`.best .allowed`). No legal plan, told in any order with rings begun anywhere,
+  -- serves more (`.best .most-members`). Of those that serve as many none has more weeks over the served (`.best .most-weeks`), and of those that also
+  -- have as many none has a record form that comes before these bytes (`.best .first`). Nobody is served exactly where there is no ring and no chain
+  -- (`.zero-clause`).
+  pub optimum : Optimum (graphOf p) (weeksIn p) (l .cycle) (l .chain) (take (16 * r) (after .plan)) k
   -- k is the number of member places listed in the records, and the sum of their bytes 15.
   pub listed : served (graphOf p) (flat (listsIn (take (16 * r) (after .plan)))) ≡ k
   pub summed : counts (recordsIn (take (16 * r) (after .plan))) ≡ k
-  -- Both tables hold their meaning, the best table by the marks of the exchange table beside it; k is its entry of all places.
+  -- Both tables hold their meaning, the best table by the marks of the exchange table beside it; k is the members in its entry of all places.
   pub exchange-table : ExchangeTable p l (before .exchanges) (after .exchanges)
   pub best-table : BestTable p (after .exchanges) (before .best) (after .best)
-  pub last-entry : getD (after .best) (everything (graphOf p)) 0 ≡ k
+  pub last-entry : getD (after .best) (everything (graphOf p)) 0 / perMember ≡ k
   -- The checker accepts these bytes with k, for any pool bytes that hold the pool.
   pub checked : (bytes : List ℕ) → readPool bytes ≡ accepted p → checkOutcome bytes l (take (16 * r) (after .plan)) ≡ accepted k

@@ -15,7 +15,7 @@ use Rattle.pool.specs.Refusals.{accepted}
 use Rattle.pool.specs.Limits.{limitsFit}
 use Rattle.reading.specs.Records.{readPool}
 use Rattle.reading.specs.Fields.{tellsMember, poolRecords}
-use Rattle.pool.specs.Value.{graphOf}
+use Rattle.pool.specs.Value.{graphOf, weeksIn}
 use Rattle.report.specs.Text.{kindWord, lineFeed, servedLine, placesText, limitsIn, counted, textOf}
 
 -- the test of the limits' bytes: 7 is met also by other than two
@@ -40,8 +40,8 @@ pub record PrintsPlan (pool limits : List ℕ) (p : Pool) : Type 0 where
   pub legal : T (isLegal (graphOf p) (limitsIn limits .cycle) (limitsIn limits .chain) plan)
   pub in-order : inOrder plan ≡ plan
   pub serves : served (graphOf p) (flat plan) ≡ count
-  -- no legal plan serves more, and of those that serve as many none has a record form that comes first;
-  pub optimum : Optimum (graphOf p) (limitsIn limits .cycle) (limitsIn limits .chain) (recordForm (graphOf p) plan) count
+  -- no legal plan serves more, of those that serve as many none has more weeks, and of those none has a record form that comes first;
+  pub optimum : Optimum (graphOf p) (weeksIn p) (limitsIn limits .cycle) (limitsIn limits .chain) (recordForm (graphOf p) plan) count
   -- the text is `served S of M` with this count and the number of records that tell a member, and a line for each exchange.
   pub text : textOf pool limits ≡ servedLine count (length (keep tellsMember (poolRecords (counted pool)))) ++ exchangeLines (graphOf p) plan
 

@@ -2,16 +2,15 @@
 use mathlib.Core.List.{List}
 use mathlib.Core.Logic.{_↔_, _≢_}
 use mathlib.Core.Path.{_≡_}
-use Prim.Native.Nat.{ℕ, _^_, _≤_, _<_}
+use Prim.Native.Nat.{ℕ, _/_, _%_, _^_, _<_}
 use lib.Dec.{T}
 use lib.ListN.{length, getD, drop}
 use Rattle.pool.specs.declared.value.Pool.{Pool}
 use Rattle.pool.specs.declared.limits.Limits.{Limits}
-use Rattle.kep.specs.Lists.{total}
-use Rattle.kep.specs.Sets.{has, setOf}
+use Rattle.kep.specs.Sets.{has, setOf, worthOf}
 use Rattle.kep.specs.Exchange.{isExchange}
-use Rattle.kep.specs.Table.{CanEnd, Family}
-use Rattle.pool.specs.Value.{graphOf}
+use Rattle.kep.specs.Table.{CanEnd, weeksWorth, perMember, MostHeld}
+use Rattle.pool.specs.Value.{graphOf, weeksIn}
 use Rattle.tables.specs.Calls.{marked, membersIn}
 
 -- An exchange table of the pool p under the limits l; `old` is what stood there before.
@@ -27,13 +26,15 @@ pub record ExchangeTable (p : Pool) (l : Limits) (old table : List ℕ) : Type 0
   pub beyond : drop (2 ^ p .size) table ≡ drop (2 ^ p .size) old
   pub as-long : length table ≡ length old
 
--- A best table of the pool p over the marks of an exchange table. The entry of s is the most members that pairwise disjoint, nonempty sets inside
--- s, all marked, can hold:
+-- the weeks that the members in a set have waited
+abbrev pub weeksHeld : Pool → ℕ → ℕ
+weeksHeld p s = worthOf (weeksWorth (graphOf p) (weeksIn p)) (p .size) s
+
+-- A best table of the pool p over the marks of an exchange table.
 pub record BestTable (p : Pool) (exchanges old table : List ℕ) : Type 0 where
-  -- some such sets hold so many,
-  pub attained : (s : ℕ) → s < 2 ^ p .size → (ts : List ℕ) × Family (marked exchanges) s ts × (total (membersIn p) ts ≡ getD table s 0)
-  -- and none hold more.
-  pub greatest : (s : ℕ) → s < 2 ^ p .size → {ts : List ℕ} → Family (marked exchanges) s ts → total (membersIn p) ts ≤ getD table s 0
+  -- The entry of s is members × 65,536 + weeks: divided by 65,536 it is the most members that pairwise disjoint, nonempty sets inside s, all marked, can hold,
+  -- and the remainder is the most weeks that those which hold so many can hold.
+  pub entries : (s : ℕ) → s < 2 ^ p .size → MostHeld (membersIn p) (weeksHeld p) (marked exchanges) s (getD table s 0 / perMember) (getD table s 0 % perMember)
   -- All beyond the entries is untouched.
   pub beyond : drop (2 ^ p .size) table ≡ drop (2 ^ p .size) old
   pub as-long : length table ≡ length old

@@ -1,7 +1,7 @@
 -- The call: its tests in their order, and what it tells and leaves where one fails and where all pass.
 use mathlib.Core.Bool.{Bool}
 use mathlib.Core.List.{List, [], _∷_}
-use mathlib.Core.Path.{_≡_, sym, ap, _∙_}
+use mathlib.Core.Path.{_≡_, refl, sym, ap, _∙_}
 use Prim.Native.Nat.{ℕ, _*_, _^_, _≤_, _<_}
 use lib.Dec.{T, leb, leb→le, le→leb}
 use lib.ListN.{length}
@@ -77,24 +77,14 @@ abbrev pub Tells : Limits → Outcome Pool → List ℕ → List ℕ → List �
 Tells l o exchanges best plan told exchanges′ best′ plan′ =
     (told ≡ clearOutcome l o) × ((exchanges′ ≡ exchangesCleared l o exchanges) × ((best′ ≡ bestCleared l o best) × (plan′ ≡ planCleared l o plan)))
 
--- a refusal is told, and leaves all that is lent
-module _ {o : Outcome Pool} {n at : ℕ} (e : refused n at ≡ o) (l : Limits) where
-  pub told-refused : refused n at ≡ clearOutcome l o
-  told-refused = ap (clearOutcome l) e
-
-  pub exchanges-stay : (table : List ℕ) → table ≡ exchangesCleared l o table
-  exchanges-stay table = ap (λ (o : Outcome Pool). exchangesCleared l o table) e
-
-  pub best-stays : (table : List ℕ) → table ≡ bestCleared l o table
-  best-stays table = ap (λ (o : Outcome Pool). bestCleared l o table) e
-
-  pub plan-stays : (plan : List ℕ) → plan ≡ planCleared l o plan
-  plan-stays plan = ap (λ (o : Outcome Pool). planCleared l o plan) e
-
 -- what is told of one outcome is told of another that is the same
 pub tells-same : (l : Limits) (exchanges best plan : List ℕ) {o o′ : Outcome Pool} {told : Outcome (ℕ × ℕ)} {exchanges′ best′ plan′ : List ℕ} → o ≡ o′
     → Tells l o exchanges best plan told exchanges′ best′ plan′ → Tells l o′ exchanges best plan told exchanges′ best′ plan′
 tells-same l exchanges best plan e h = rw (← e) h
+
+-- a refusal is told, and leaves all that is lent
+pub tells-refused : (l : Limits) (exchanges best plan : List ℕ) {o : Outcome Pool} {n at : ℕ} → refused n at ≡ o → Tells l o exchanges best plan (refused n at) exchanges best plan
+tells-refused l exchanges best plan e = rw (← e) (refl, (refl, (refl, refl)))
 
 -- ---- reading first
 

@@ -3,8 +3,8 @@
 use mathlib.Core.Bool.{Bool, not}
 use mathlib.Core.List.{List, _++_}
 use mathlib.Core.Path.{_≡_, sym, ap, _∙_}
-use Prim.Native.Nat.{ℕ, _-_, _^_, _≤_, _<_}
-use native.Mathlib.Nat.{le-antisymm}
+use Prim.Native.Nat.{ℕ, _+_, _-_, _/_, _^_, _≤_, _<_}
+use native.Mathlib.Nat.{le-antisymm, mul-le-mul-right}
 use native.Mathlib.Omega.{arith}
 use lib.Dec.{T, eqb}
 use lib.ListN.{length, getD, drop}
@@ -14,20 +14,24 @@ use Rattle.pool.specs.declared.limits.Limits.{Limits}
 use Rattle.kep.specs.Lists.{flat}
 use Rattle.pool.specs.Limits.{limitsFit}
 use Rattle.kep.specs.Sets.{Part}
-use Rattle.pool.specs.Value.{graphOf, poolFits}
-use Rattle.tables.specs.Calls.{marked, worthIn, membersIn, bestLeft}
+use Rattle.pool.specs.Value.{graphOf, weeksIn, mostWeeks, poolFits}
+use Rattle.tables.specs.Calls.{marked, worthIn, setWorth, bestLeft}
 use Rattle.exchanges.specs.ExchangesCall.{exchangesLeft}
-use Rattle.kep.specs.Table.{served, Family}
-use Rattle.kep.specs.computed.Table.{entry, marks, best, bestOf}
+use Rattle.kep.specs.Graph.{isMember}
+use Rattle.kep.specs.Table.{served, perMember, Family}
+use Rattle.kep.specs.computed.Table.{entry, marks, best, bestOf, everything}
 use Rattle.clearing.specs.computed.Cleared.{planOf, exchangesOf, bestsOf}
 use Rattle.clearing.specs.inner.Taking.{TablesHold}
 use Rattle.kep.proofs.Tables.{getD-tabulate, tabulate-below, written-front}
 use Rattle.kep.proofs.Parts.{part-le}
-use Rattle.kep.proofs.BestTable.{best-attained, best-bound}
+use Rattle.kep.proofs.BestTable.{best-attained, best-bound, best-worth}
 use Rattle.exchanges.proofs.ExchangesCall.{passes-all as exchanges-pass, leaves as exchanges-leave}
 use Rattle.tables.proofs.BestCall.{accepted-all as best-accepted}
-use Rattle.kep.proofs.Answer.{answer-best}
+use Rattle.kep.proofs.Answer.{answer-best, answer-legal}
 use Rattle.kep.proofs.BestPlan.{best-count}
+use Rattle.kep.proofs.Weeks.{waited-small, weeks-told}
+use Rattle.kep.proofs.Worth.{counted-le, worth-le}
+use Rattle.pool.proofs.ValueLaws.{fits-size, fits-weeks, few-weeks}
 
 -- ---- marks that agree on the parts of a set give it the same best
 
@@ -59,14 +63,14 @@ module _ (p : Pool) (l : Limits) (fits : T (poolFits p)) where
     unfolding marks
     marks-agree t b = ap (λ (x : ℕ). not (eqb x 0)) (ap (λ (xs : List ℕ). getD xs t 0) filled ∙ getD-tabulate (entry (graphOf p) (l .cycle) (l .chain)) (2 ^ p .size) t (drop (2 ^ p .size) table₀) b)
 
-    pub bests-agree : (s : ℕ) → s < 2 ^ p .size → best (membersIn p) (marked exchanges) s ≡ bestOf (worthIn p) (graphOf p) (l .cycle) (l .chain) s
-    bests-agree s b = best-agrees (membersIn p) (marked exchanges) (marks (graphOf p) (l .cycle) (l .chain)) s (λ t i. marks-agree t (omega (arith, part-le i)))
+    pub bests-agree : (s : ℕ) → s < 2 ^ p .size → best (setWorth p) (marked exchanges) s ≡ bestOf (worthIn p) (graphOf p) (l .cycle) (l .chain) s
+    bests-agree s b = best-agrees (setWorth p) (marked exchanges) (marks (graphOf p) (l .cycle) (l .chain)) s (λ t i. marks-agree t (omega (arith, part-le i)))
 
     pub best-filled : (table : List ℕ) {left : List ℕ} → 2 ^ p .size ≤ length exchanges → 2 ^ p .size ≤ length table → left ≡ bestLeft p exchanges table → left ≡ bestsOf p l table
     best-filled table long also-long e =
         e
         ∙ sym (best-accepted p exchanges table fits long also-long .1)
-        ∙ ap (λ (xs : List ℕ). xs ++ drop (2 ^ p .size) table) (tabulate-below (best (membersIn p) (marked exchanges)) (bestOf (worthIn p) (graphOf p) (l .cycle) (l .chain)) (2 ^ p .size) bests-agree)
+        ∙ ap (λ (xs : List ℕ). xs ++ drop (2 ^ p .size) table) (tabulate-below (best (setWorth p) (marked exchanges)) (bestOf (worthIn p) (graphOf p) (l .cycle) (l .chain)) (2 ^ p .size) bests-agree)
 
     -- so the choice may go by both
     pub filled-hold : (table : List ℕ) {left : List ℕ} → left ≡ bestsOf p l table → TablesHold p l exchanges left
@@ -75,9 +79,22 @@ module _ (p : Pool) (l : Limits) (fits : T (poolFits p)) where
       best-hold = written-front (bestOf (worthIn p) (graphOf p) (l .cycle) (l .chain)) (2 ^ p .size) table e;
     }
 
-  -- the last entry of the best table counts the members served
-  pub last-served : (table : List ℕ) {left : List ℕ} → left ≡ bestsOf p l table → getD left (2 ^ p .size - 1) 0 ≡ served (graphOf p) (flat (planOf p l))
-  last-served table e =
-      ap (λ (xs : List ℕ). getD xs (2 ^ p .size - 1) 0) e
-      ∙ getD-tabulate (bestOf (worthIn p) (graphOf p) (l .cycle) (l .chain)) (2 ^ p .size) (2 ^ p .size - 1) (drop (2 ^ p .size) table) (omega (arith, pow-pos (p .size)))
-      ∙ sym (best-count (graphOf p) (l .cycle) (l .chain) (worthIn p) (answer-best (graphOf p) (l .cycle) (l .chain) (worthIn p)))
+  -- the last entry of the best table tells the members served
+  module _ (table : List ℕ) {left : List ℕ} (filled : left ≡ bestsOf p l table) where
+    last-best : getD left (2 ^ p .size - 1) 0 ≡ bestOf (worthIn p) (graphOf p) (l .cycle) (l .chain) (everything (graphOf p))
+    last-best =
+        ap (λ (xs : List ℕ). getD xs (2 ^ p .size - 1) 0) filled
+        ∙ getD-tabulate (bestOf (worthIn p) (graphOf p) (l .cycle) (l .chain)) (2 ^ p .size) (2 ^ p .size - 1) (drop (2 ^ p .size) table) (omega (arith, pow-pos (p .size)))
+
+    pub last-served : getD left (2 ^ p .size - 1) 0 / perMember ≡ served (graphOf p) (flat (planOf p l))
+    last-served =
+        let g = graphOf p in
+        let below = waited-small g (weeksIn p) (few-weeks p fits) (l .cycle) (l .chain) in
+        ap (λ (x : ℕ). x / perMember) (last-best ∙ sym (best-count g (l .cycle) (l .chain) (worthIn p) (answer-best g (l .cycle) (l .chain) (worthIn p))))
+        ∙ weeks-told g (weeksIn p) below (planOf p l) (answer-legal g (l .cycle) (l .chain) (worthIn p))
+
+    -- which fit a byte
+    pub last-few : getD left (2 ^ p .size - 1) 0 / perMember ≤ 14
+    last-few =
+        let most = worth-le (worthIn p) (p .size) (everything (graphOf p)) (perMember + mostWeeks) (λ x h. omega (arith, counted-le (isMember (graphOf p) x) (perMember + weeksIn p x), fits-weeks p fits x h)) in
+        omega (arith, last-best, best-worth (worthIn p) (marks (graphOf p) (l .cycle) (l .chain)) (p .size) (everything (graphOf p)), most, mul-le-mul-right (perMember + mostWeeks) (fits-size p fits))

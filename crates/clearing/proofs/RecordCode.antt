@@ -7,6 +7,7 @@ use native.Mathlib.Nat.{lt-of-le-of-lt}
 use native.Mathlib.Omega.{arith}
 use borrow.Rule.Slice.PartMut.{midOf, postOf, putMid, mid-len, post-is}
 use lib.Bits.{bitAnd, and-le-r}
+use lib.Count.{ones}
 use lib.Dec.{T}
 use lib.ListN.{length, getD, take, set, replicate, length-append}
 use lib.Seq.{take-at, set-at, append-snoc}
@@ -21,7 +22,9 @@ use Rattle.kep.specs.Plan.{kindOf, recordOf}
 use Rattle.kep.proofs.Vertices.{where-lt}
 use Rattle.kep.proofs.Operations.{size-ones}
 use Rattle.pool.proofs.ValueLaws.{fits-size}
-use Rattle.tables.proofs.BestCode.{members-held}
+use Rattle.kep.proofs.Worth.{worth-and}
+use Rattle.kep.proofs.SetLoops.{where-reach}
+use Rattle.kep.proofs.ExchangeFacts.{member-between}
 use Rattle.kep.proofs.Bytes.{padded, padded-length, last-two}
 
 -- ---- its last two bytes
@@ -31,7 +34,10 @@ pub members-counted : (p : Pool) → T (poolFits p) → (s : ℕ) → sizeBelow 
 members-counted p fits s =
     let members = setWhere 16 (isMember (graphOf p)) in
     size-ones 16 (bitAnd s members) (lt-of-le-of-lt (and-le-r s members) (where-lt 16 (isMember (graphOf p))))
-    ∙ sym (ap (λ (held : ℕ → ℕ). held s) (members-held p (omega (arith, fits-size p fits))))
+    ∙ sym (worth-and (isMember (graphOf p)) (p .size) s ∙ ap (λ (x : ℕ). ones (bitAnd s x)) (where-reach (p .size) 16 (isMember (graphOf p)) inside))
+  where
+    inside : (u : ℕ) → T (isMember (graphOf p) u) → (u < p .size) × (u < 16)
+    inside u t = let h = member-between (graphOf p) u t .1 in (h, omega (arith, fits-size p fits))
 
 -- the kind goes by the first vertex
 module _ (g : Graph) (x : ℕ) (xs : List ℕ) where

@@ -8,7 +8,6 @@ use Prim.Native.Nat.{ℕ, zero, suc, _+_, _-_, _^_, _≤_, _<_}
 use native.Mathlib.Omega.{arith}
 use borrow.Author.Tests.{lt-ltb, le-ltb}
 use borrow.Rule.Slice.PartMut.{midOf, putMid, put-same, mid-len}
-use lib.Bits.{bitAnd}
 use lib.Dec.{T, eqb, eqb→eq, ltb, leb, leb→le}
 use lib.ListN.{length, getD, take, drop, set, replicate, length-take, length-replicate}
 use lib.Pow.{pow-mono, pow-pos}
@@ -16,11 +15,11 @@ use lib.Seq.{getD-take}
 use Rattle.pool.specs.declared.value.Pool.{Pool}
 use Rattle.pool.specs.declared.limits.Limits.{Limits}
 use Rattle.kep.specs.Lists.{tabulate}
-use Rattle.kep.specs.Sets.{has, Part, counted, setOf, lowestBelow, setWhere, sizeBelow, withVertex}
+use Rattle.kep.specs.Sets.{has, Part, counted, setOf, lowestBelow, withVertex}
 use Rattle.kep.specs.inner.Lowest.{lowest}
-use Rattle.pool.specs.Value.{graphOf, poolFits}
+use Rattle.pool.specs.Value.{graphOf}
 use Rattle.kep.specs.Exchange.{lastOf}
-use Rattle.kep.specs.Graph.{isMember, givers}
+use Rattle.kep.specs.Graph.{givers}
 use Rattle.kep.specs.computed.Table.{bestOf, entry}
 use Rattle.tables.specs.Calls.{worthIn}
 use Rattle.clearing.specs.declared.seeking.Step.{Step}
@@ -40,7 +39,6 @@ use Rattle.kep.proofs.Vertices.{in-power, in-without, power-part}
 use Rattle.kep.proofs.Ends.{in-givers}
 use Rattle.kep.proofs.ExchangeFacts.{Exchange, cycle, chain, member-between, exchange-distinct, exchange-below}
 use Rattle.kep.proofs.Completion.{MayEnd, Means, good-iff}
-use Rattle.clearing.proofs.RecordCode.{members-counted}
 use Rattle.clearing.proofs.Seek.{last-fresh}
 
 -- ---- tables that hold their meaning
@@ -69,9 +67,9 @@ module _ {p : Pool} {l : Limits} {exchanges best : List ℕ} (hold : TablesHold 
 
   -- ---- so paths go by the graph and its best
 
-  pub means : (free : ℕ) → T (poolFits p) → free < 2 ^ p .size → Means (graphOf p) (l .cycle) (l .chain) (worthIn p) (poolField p exchanges best free)
+  pub means : (free : ℕ) → free < 2 ^ p .size → Means (graphOf p) (l .cycle) (l .chain) (worthIn p) (poolField p exchanges best free)
   unfolding endsOf
-  means free fits wide = record { arcs = arcs; ends = λ u part. ends u part }
+  means free wide = record { arcs = arcs; ends = λ u part. ends u part }
     where
       arcs : (u v : ℕ) → T (has free u) → T (has free v) → T (has (getD (p .gives) u 0) v) ↔ T (graphOf p .arc u v)
       arcs u v i k = (λ t. arc-iff p u v .1 (has-below (p .size) free u wide i, has-below (p .size) free v wide k, t), λ t. arc-iff p u v .0 t .2)
@@ -83,11 +81,11 @@ module _ {p : Pool} {l : Limits} {exchanges best : List ℕ} (hold : TablesHold 
       ends : {S : ℕ} (u : ℕ) → Part S free → T (has (endsOf (stepOf p free) exchanges best S) u) ↔ MayEnd (graphOf p) (l .cycle) (l .chain) (worthIn p) free S u
       ends {S} u part =
           let below : S < 2 ^ p .size = omega (arith, part-le part) in
-          let reached = sizeBelow 16 (bitAnd S (setWhere 16 (isMember (graphOf p)))) + getD best (free - S) 0 in
+          let reached = getD best S 0 + getD best (free - S) 0 in
           let entry-is : getD exchanges S 0 ≡ entryIn p l S = front-at (entryIn p l) (2 ^ p .size) exchanges (hold .exchanges-hold) S below in
           let r = in-counted (eqb reached (getD best free 0)) (getD exchanges S 0) u in (
-            λ t. record { last = rw entry-is at (r .0 t .1); exact = rw (members-counted p fits S, best-at (free - S) (omega arith), best-at free wide) at (eqb→eq reached (getD best free 0) (r .0 t .0)) },
-            λ m. r .1 (eq→eqb reached (getD best free 0) (rw (members-counted p fits S, best-at (free - S) (omega arith), best-at free wide) (m .exact)), rw entry-is (m .last)),
+            λ t. record { last = rw entry-is at (r .0 t .1); exact = rw (best-at S below, best-at (free - S) (omega arith), best-at free wide) at (eqb→eq reached (getD best free 0) (r .0 t .0)) },
+            λ m. r .1 (eq→eqb reached (getD best free 0) (rw (best-at S below, best-at (free - S) (omega arith), best-at free wide) (m .exact)), rw entry-is (m .last)),
           )
 
 -- ---- the search from the lowest free vertex on
@@ -138,7 +136,7 @@ module _ {p : Pool} {l : Limits} {gs exchanges best : List ℕ} (c : Choosing p 
 
     -- what completes it is a good exchange
     exchange : (ys : List ℕ) → Completes F (2 ^ lowest free) (lowest free) ys → Exchange (graphOf p) (l .cycle) (l .chain) (lowest free ∷ ys)
-    exchange ys k = good-iff (graphOf p) (l .cycle) (l .chain) (worthIn p) (means (c .hold) free (c .fits) wide) is-low ys .1 k .told .0
+    exchange ys k = good-iff (graphOf p) (l .cycle) (l .chain) (worthIn p) (means (c .hold) free wide) is-low ys .1 k .told .0
 
     -- no longer than the limits allow
     short : (ys : List ℕ) → Completes F (2 ^ lowest free) (lowest free) ys → length ys ≤ moreBy (ltb (lowest free) (p .altruists)) (l .cycle) (l .chain)
@@ -162,16 +160,15 @@ module _ {p : Pool} {l : Limits} {gs exchanges best : List ℕ} (c : Choosing p 
             rw (lt-ltb (lowest free) (p .altruists) (e .altruist)) (has-full 16 (lastOf x ys) (omega arith))
 
     -- as the code makes it
-    module _ {members goal path : ℕ}
-        (members-are : members ≡ setWhere 16 (isMember (graphOf p)))
+    module _ {goal path : ℕ}
         (goal-is : goal ≡ goalBy (ltb v (p .altruists)) (getD gs v 0))
         (path-is : path ≡ withVertex 16 0 v)
       where
         abbrev step : Step
-        step = record { free = record { 0 = free }; members = record { 0 = members }; goal = record { 0 = goal } }
+        step = record { free = record { 0 = free }; goal = record { 0 = goal } }
 
         step-is : step ≡ stepOf p free
-        step-is = rw (members-are, goal-is, c .givers-are, getD-whole (givers (graphOf p)) 14 v first-lt, low)
+        step-is = rw (goal-is, c .givers-are, getD-whole (givers (graphOf p)) 14 v first-lt, low)
 
         first-bit : path ≡ 2 ^ lowest free
         first-bit = path-is ∙ with-new 16 0 (omega arith) v (omega (arith, first-lt)) (not-in-empty v) ∙ rw low (omega arith)

@@ -1,4 +1,4 @@
-// The plan chosen exchange by exchange over the two tables: of the legal plans that serve most the one whose records come first.
+// The plan chosen exchange by exchange over the two tables: of the legal plans that are worth most the one whose records come first.
 use crate::step::take_exchange;
 use pool::Limits;
 use pool::Pool;
@@ -20,7 +20,7 @@ fn choose(
     limits: Limits,
     givers: &[u16],
     exchanges: &[u16],
-    best: &[u8],
+    best: &[u32],
     dead: &mut [u16],
     plan: &mut [u8],
 ) -> usize
@@ -63,7 +63,7 @@ pub(crate) fn write_plan(
     pool: Pool,
     limits: Limits,
     exchanges: &[u16],
-    best: &[u8],
+    best: &[u32],
     plan: &mut [u8],
 ) -> usize
     requires { ⌜ T (poolFits pool) ⌝ }

@@ -1,4 +1,5 @@
-// Clearing: pool bytes, limits, both tables and a plan buffer; the plan is the first of the legal plans that serve most.
+// Clearing: pool bytes, limits, both tables and a plan buffer; the plan is the best of the legal plans: most members, then most weeks,
+// then the records that come first.
 use crate::choosing::write_plan;
 use exchanges::fill_exchanges;
 use exchanges::test_exchanges;
@@ -8,6 +9,7 @@ use pool::Pool;
 use pool::Refusal;
 use pool::Verdict;
 use reading::read_pool;
+use tables::MEMBER;
 use tables::fill_best;
 ghost use mathlib.Core.Path.{_≡_};
 ghost use Rattle.pool.specs.Refusals.{accepted, outcomeOf, tested};
@@ -25,7 +27,7 @@ pub fn clear(
     pool: &[u8],
     limits: Limits,
     exchanges: &mut [u16],
-    best: &mut [u8],
+    best: &mut [u32],
     plan: &mut [u8],
 ) -> Cleared
     ensures outcome { λ r. ⌜ clearedOutcome r ≡ clearOutcome limits (clearable (now (pool .entry)) limits (now (exchanges .entry)) (now (best .entry)) (now (plan .entry))) ⌝ }
@@ -46,7 +48,7 @@ pub fn clear_value(
     pool: Pool,
     limits: Limits,
     exchanges: &mut [u16],
-    best: &mut [u8],
+    best: &mut [u32],
     plan: &mut [u8],
 ) -> Cleared
     ensures outcome { λ r. ⌜ clearedOutcome r ≡ clearOutcome limits (clearableValue pool limits (now (exchanges .entry)) (now (best .entry)) (now (plan .entry))) ⌝ }
@@ -66,7 +68,7 @@ fn clear_accepted(
     pool: Pool,
     limits: Limits,
     exchanges: &mut [u16],
-    best: &mut [u8],
+    best: &mut [u32],
     plan: &mut [u8],
 ) -> Cleared
     requires { ⌜ accepted pool ≡ clearableValue pool limits (now exchanges) (now best) (now plan) ⌝ }
@@ -81,7 +83,7 @@ fn clear_accepted(
     let records = write_plan(pool, limits, exchanges, best, plan);
     let all = (1usize << pool.size) - 1;
     Cleared::Plan {
-        served: best[all],
+        served: (best[all] / MEMBER) as u8,
         records,
     }
 }

@@ -1,4 +1,4 @@
-// Layer three of document 01: clearing. Both tables, and the first of the plans that serve most, chosen step by step.
+// Layer three of document 01: clearing. Both tables, and the first of the plans that are worth most, chosen step by step.
 mod choosing;
 mod chosen_record;
 mod clearing;

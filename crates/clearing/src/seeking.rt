@@ -13,14 +13,13 @@ ghost use Rattle.clearing.specs.inner.Seeking.{fieldOf, endsOf, openAt, 
 pub(crate) struct Step {
     // The vertices that no exchange has taken.
     pub free: VertexSet,
-    // All members of the pool.
-    pub members: VertexSet,
     // The vertices at which a path that goes on may end.
     pub goal: VertexSet,
 }
 
-// May a path on the set end at u? With the set taken the best of the free vertices can still be reached.
-fn may_end(step: Step, exchanges: &[u16], best: &[u8], path: VertexSet, u: u8) -> bool
+// May a path on the set end at u? It is an exchange then, so its entry in the best table is all that it is worth, and with what it leaves
+// the best of the free vertices can be reached.
+fn may_end(step: Step, exchanges: &[u16], best: &[u32], path: VertexSet, u: u8) -> bool
     requires { ⌜ path .0 ≤ step .free .0 ⌝ }
     requires { ⌜ step .free .0 < length (now exchanges) ⌝ }
     requires { ⌜ step .free .0 < length (now best) ⌝ }
@@ -34,7 +33,7 @@ fn may_end(step: Step, exchanges: &[u16], best: &[u8], path: VertexSet, u: u8) -
     let free = step.free.0;
     let all = free as usize;
     let rest = (free - set) as usize;
-    VertexSet(set & step.members.0).size() as u16 + best[rest] as u16 == best[all] as u16
+    best[here] as u64 + best[rest] as u64 == best[all] as u64
 }
 
 // The vertices to try next from u on, where at most `more` may follow it: those that it gives to and that are free beside the path,
@@ -71,7 +70,7 @@ fn open_at(
 fn end_at(
     step: Step,
     exchanges: &[u16],
-    best: &[u8],
+    best: &[u32],
     dead: &mut [u16],
     path: VertexSet,
     u: u8,
@@ -103,7 +102,7 @@ pub(crate) fn seek(
     gives: &[u16],
     step: Step,
     exchanges: &[u16],
-    best: &[u8],
+    best: &[u32],
     dead: &mut [u16],
     bytes: &mut [u8],
     path: VertexSet,

@@ -46,7 +46,7 @@ pub(crate) fn take_exchange(
     limits: Limits,
     givers: &[u16],
     exchanges: &[u16],
-    best: &[u8],
+    best: &[u32],
     free: VertexSet,
     dead: &mut [u16],
     bytes: &mut [u8],
@@ -63,7 +63,6 @@ pub(crate) fn take_exchange(
     let end = 1 + more_from(pool.altruists, limits, first) as usize;
     let step = Step {
         free,
-        members: pool.members(),
         goal: goal_from(pool.altruists, givers, first),
     };
     let gives = pool.gives;

@@ -9,7 +9,8 @@ use Rattle.kep.specs.Graph.{Graph}
 use Rattle.kep.specs.Exchange.{isExchange, headOf}
 use Rattle.kep.specs.Table.{memberWorth}
 use Rattle.kep.specs.computed.Table.{exchanges}
-use Rattle.kep.specs.Plan.{Best, ZeroClause, recordForm, inOrder, recordsOf}
+use Rattle.kep.specs.Plan.{ZeroClause, recordForm, inOrder, recordsOf}
+use Rattle.kep.specs.inner.Best.{BestBy, BestLegal}
 use Rattle.kep.specs.computed.Answer.{plans, answer}
 use Rattle.kep.proofs.Each.{each-map, keep-in, each-at}
 use Rattle.kep.proofs.PlanLists.{sublists-in}
@@ -21,19 +22,18 @@ use Rattle.kep.proofs.InOrder.{in-order-total}
 use Rattle.kep.proofs.Legal.{flat-alone, alone-legal, legal-exchanges, Legal, told-in-order, legal-rises, in-order-told, in-order-distinct, empty-legal, plans-legal}
 use Rattle.kep.proofs.Choice.{AsGood, pick-best, pick-keeps, as-good-score, as-good-form}
 
--- ---- `Best` determines its records and its count
+-- ---- what is best by a worth is one, records and worth
 
-module _ {w : ℕ → ℕ} {g : Graph} {lc lp : ℕ} where
-  -- one answer is worth as much as the other
-  as-much : {r r′ : List ℕ} {c c′ : ℕ} → Best w g lc lp r c → Best w g lc lp r′ c′ → c′ ≤ c
-  as-much b b′ = omega (arith, b .greatest (b′ .legal .0) (b′ .legal .1))
+module _ {Allowed : List (List ℕ) → Type 0} {w : ℕ → ℕ} {g : Graph} where
+  -- one is worth as much as the other
+  as-much : {r r′ : List ℕ} {c c′ : ℕ} → BestBy Allowed w g r c → BestBy Allowed w g r′ c′ → c′ ≤ c
+  as-much b b′ = omega (arith, b .greatest (b′ .plan .0) (b′ .plan .1))
 
   -- of equal worth, one does not come after the other
-  as-early : {r r′ : List ℕ} {c c′ : ℕ} → Best w g lc lp r c → Best w g lc lp r′ c′ → c ≡ c′ → T (before r r′)
-  as-early b b′ e = rw (b′ .legal .2) at (b .first (b′ .legal .0) (b′ .legal .1) (b′ .legal .3 ∙ sym e))
+  as-early : {r r′ : List ℕ} {c c′ : ℕ} → BestBy Allowed w g r c → BestBy Allowed w g r′ c′ → c ≡ c′ → T (before r r′)
+  as-early b b′ e = rw (b′ .plan .2) at (b .first (b′ .plan .0) (b′ .plan .1) (b′ .plan .3 ∙ sym e))
 
-  -- there are not two answers
-  pub best-determines : {r r′ : List ℕ} {c c′ : ℕ} → Best w g lc lp r c → Best w g lc lp r′ c′ → (r ≡ r′) × (c ≡ c′)
+  pub best-determines : {r r′ : List ℕ} {c c′ : ℕ} → BestBy Allowed w g r c → BestBy Allowed w g r′ c′ → (r ≡ r′) × (c ≡ c′)
   best-determines {r} {r′} {c} {c′} b b′ =
       let same : c ≡ c′ = omega (arith, as-much b b′, as-much b′ b) in
       (before-antisym r r′ (as-early b b′ same) (as-early b′ b (sym same)), same)
@@ -43,16 +43,17 @@ module _ (g : Graph) (lc lp : ℕ) where
   abbrev pub Worthy : (ℕ → ℕ) → Type 0
   Worthy w = (xs : List ℕ) → Exchange g lc lp xs → 1 ≤ total w xs
 
-  -- ---- the zero clause: nothing is gained exactly where there is no exchange
+  -- ---- the zero clause: the most that a legal plan is worth is 0 exactly where there is no exchange
 
-  pub zero-clause : {w : ℕ → ℕ} {r : List ℕ} {c : ℕ} → Worthy w → Best w g lc lp r c → ZeroClause g lc lp c
+  pub zero-clause : (w : ℕ → ℕ) {c : ℕ} (p : List (List ℕ)) → Worthy w → Legal g lc lp p → total w (flat p) ≡ c
+      → ((q : List (List ℕ)) → Legal g lc lp q → total w (flat q) ≤ c) → ZeroClause g lc lp c
   unfolding total flat
-  zero-clause {w} {r} {c} worthy b = (no-exchange, nothing)
+  zero-clause w {c} p worthy legal count greatest = (no-exchange, nothing)
     where
       no-exchange : c ≡ 0 → (xs : List ℕ) → T (isExchange g lc lp xs) → ⊥
       no-exchange e xs h =
           let x = is-exchange g lc lp xs h in
-          let most : total w xs ≤ c = rw (flat-alone xs) at (b .greatest (xs ∷ []) (alone-legal g lc lp x)) in
+          let most : total w xs ≤ c = rw (flat-alone xs) at (greatest (xs ∷ []) (alone-legal g lc lp x)) in
           omega (arith, worthy xs x)
 
       empty : {p : List (List ℕ)} → ((xs : List ℕ) → T (isExchange g lc lp xs) → ⊥) → Each (Exchange g lc lp) p → p ≡ []
@@ -60,9 +61,7 @@ module _ (g : Graph) (lc lp : ℕ) where
       empty f (also {x = x} h hs) = absurd (f x (exchange-is g h))
 
       nothing : ((xs : List ℕ) → T (isExchange g lc lp xs) → ⊥) → c ≡ 0
-      nothing f =
-          let (p, legal, form, count) = b .legal in
-          sym count ∙ ap (λ (q : List (List ℕ)). total w (flat q)) (empty f (legal-exchanges g lc lp p legal))
+      nothing f = sym count ∙ ap (λ (q : List (List ℕ)). total w (flat q)) (empty f (legal-exchanges g lc lp p legal))
 
   -- ---- the answer is best
 
@@ -94,12 +93,12 @@ module _ (g : Graph) (lc lp : ℕ) where
     unfolding score answer
     answer-legal = pick-keeps score (recordForm g) (Legal g lc lp) [] (plans g lc lp) (empty-legal g lc lp) (plans-legal g lc lp)
 
-    pub answer-best : let p = answer w g lc lp in Best w g lc lp (recordForm g p) (total w (flat p))
+    pub answer-best : let p = answer w g lc lp in BestLegal w g lc lp (recordForm g p) (total w (flat p))
     unfolding score
     answer-best =
         let p = answer w g lc lp in
         record {
-          legal = (p, answer-legal, refl, refl);
+          plan = (p, answer-legal, refl, refl);
           greatest = λ q h. as-good-score score (recordForm g) p q (answer-as-good q h);
           first = λ q h e. as-good-form score (recordForm g) p q (answer-as-good q h) e;
         }

@@ -7,9 +7,10 @@ use lib.Dec.{T}
 use Rattle.kep.specs.Lists.{Each, distinct, total, none, also, flat}
 use Rattle.kep.specs.Graph.{Graph}
 use Rattle.kep.specs.Sets.{has, worthOf, setOf, Part}
-use Rattle.kep.specs.Table.{Family}
-use Rattle.kep.specs.computed.Table.{marks, bestOf, everything}
+use Rattle.kep.specs.Table.{Family, memberWorth}
 use Rattle.kep.specs.Plan.{Best}
+use Rattle.kep.specs.computed.Table.{marks, bestOf, everything}
+use Rattle.kep.specs.inner.Best.{BestLegal}
 use Rattle.kep.proofs.Each.{each-at, each-append, each-map}
 use Rattle.kep.proofs.ListLaws.{distinct-append}
 use Rattle.kep.proofs.Parts.{in-rest}
@@ -59,8 +60,14 @@ module _ (g : Graph) (lc lp : ℕ) (w : ℕ → ℕ) where
       (r .plan, legal-of g lc lp (r .plan) (r .exchanges) (r .apart), r .worth ∙ e)
 
   -- none is worth more, so whatever is best is worth that much
-  pub best-count : {r : List ℕ} {c : ℕ} → Best w g lc lp r c → c ≡ bestOf w g lc lp (everything g)
+  pub best-count : {r : List ℕ} {c : ℕ} → BestLegal w g lc lp r c → c ≡ bestOf w g lc lp (everything g)
   best-count {r} {c} b =
       let (p, l, e) = best-legal in
-      let (q, m, form, count) = b .legal in
+      let (q, m, form, count) = b .plan in
       omega (arith, b .greatest p l, legal-bound g lc lp w q m)
+
+-- the best by members and then by weeks serves as many as the best by members alone
+pub weeks-most : (g : Graph) (lc lp : ℕ) {weeks : ℕ → ℕ} {r : List ℕ} {c : ℕ} → Best (Legal g lc lp) g weeks r c → c ≡ bestOf (memberWorth g) g lc lp (everything g)
+weeks-most g lc lp b =
+    let (p, legal, e) = best-legal g lc lp (memberWorth g) in
+    omega (arith, b .most-members p legal, legal-bound g lc lp (memberWorth g) (b .plan) (b .allowed .0), b .allowed .2)

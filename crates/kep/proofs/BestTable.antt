@@ -212,3 +212,7 @@ module _ (v : ℕ → ℕ) (m : ℕ → Bool) where
 -- the best is at most the worth of the whole set
 pub best-worth : (w : ℕ → ℕ) (m : ℕ → Bool) (n s : ℕ) → best (worthOf w n) m s ≤ worthOf w n s
 best-worth w m n s = let a = best-attained (worthOf w n) m s in omega (arith, a .2, family-worth w n s (a .0) (a .1))
+
+-- and that of a marked set is all of it
+pub best-marked : (w : ℕ → ℕ) (m : ℕ → Bool) (n : ℕ) {s : ℕ} → 0 < s → T (m s) → best (worthOf w n) m s ≡ worthOf w n s
+best-marked w m n {s} some mark = omega (arith, best-worth w m n s, best-with (worthOf w n) m {s = s} (record { nonempty = some; marked = mark; inside = part-refl s }))

@@ -10,7 +10,7 @@ use lib.Dec.{T}
 use Rattle.kep.specs.Lists.{distinct, Each, also, none}
 use Rattle.kep.specs.Graph.{Graph}
 use Rattle.kep.specs.Exchange.{walk, lastOf}
-use Rattle.kep.specs.Sets.{has, worthOf, setOf, Part}
+use Rattle.kep.specs.Sets.{has, setOf, Part}
 use Rattle.kep.specs.Table.{CanEnd, lowestFirst}
 use Rattle.kep.specs.computed.Table.{bestOf, entry}
 use Rattle.kep.specs.inner.Paths.{Field, Next, Completes, Completable, Leftmost, stop, go-on}
@@ -24,7 +24,7 @@ use Rattle.kep.proofs.Walks.{walk-iff, Lower, lower-lowestFirst, first-
 use Rattle.kep.proofs.ExchangeFacts.{Told, exchange-distinct, Exchange, exchange-again, exchange-is, exchange-walk}
 use Rattle.kep.proofs.EntryMeaning.{end-told, entry-ends}
 use Rattle.kep.proofs.Bytes.{lower, _◁_, longer, next}
-use Rattle.kep.proofs.Greedy.{Good, told-worth, FirstGood, NoneGood}
+use Rattle.kep.proofs.Greedy.{Good, told-best, FirstGood, NoneGood}
 
 -- ---- the leftmost way comes first: going on comes before ending, and a lower vertex before a higher
 
@@ -45,10 +45,10 @@ leftmost-first {f} {S} (x ∷ zs) (go-on {v = v} {ys = ys} n least rest) c = go 
 
 -- ---- the lists that complete the lowest free vertex are the good exchanges
 
--- the path may end here: u is in the entry of S, and with S taken the best of U can still be reached
+-- the path may end here: u is in the entry of S, and the best of S, which is all of it, and of what it leaves come to that of U
 pub record MayEnd (g : Graph) (lc lp : ℕ) (w : ℕ → ℕ) (U S u : ℕ) : Type 0 where
   pub last : T (has (entry g lc lp S) u)
-  pub exact : worthOf w (g .size) S + bestOf w g lc lp (U - S) ≡ bestOf w g lc lp U
+  pub exact : bestOf w g lc lp S + bestOf w g lc lp (U - S) ≡ bestOf w g lc lp U
 
 -- what paths go by is the graph and its best
 pub record Means (g : Graph) (lc lp : ℕ) (w : ℕ → ℕ) (f : Field) : Type 0 where
@@ -153,7 +153,7 @@ module _ (g : Graph) (lc lp : ℕ) (w : ℕ → ℕ) {f : Field} (means : Means 
                 fresh = each-map (λ v h. (h .0, λ t. h .1 (sym (in-power l v .0 t)))) (each-both inside (distinct-first l ys once));
               },
               means .ends (lastOf l ys) (good .inside) .1
-                  record { last = entry-ends g lc lp (setOf (l ∷ ys)) (lastOf l ys) .1 end; exact = rw (told-worth g lc lp w (good .told)) (good .exact) },
+                  record { last = entry-ends g lc lp (setOf (l ∷ ys)) (lastOf l ys) .1 end; exact = rw (told-best g lc lp w (good .told)) (good .exact) },
             )
 
         from : Path (2 ^ l) l ys × T (has (f .ends (setOf (l ∷ ys))) (lastOf l ys)) → Good g lc lp w U (l ∷ ys)
@@ -164,7 +164,7 @@ module _ (g : Graph) (lc lp : ℕ) (w : ℕ → ℕ) {f : Field} (means : Means 
             record {
               told = told;
               inside = inside;
-              exact = rw (told-worth g lc lp w told) at (m .exact);
+              exact = rw (told-best g lc lp w told) at (m .exact);
             }
 
   -- the lowest free vertex can be completed: the leftmost way from it gives the first good exchange; if it cannot, there is none

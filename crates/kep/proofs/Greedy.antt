@@ -11,15 +11,16 @@ use Rattle.kep.specs.Sets.{worthOf, setOf, Part, has, Disjoint}
 use Rattle.kep.specs.Table.{Marked}
 use Rattle.kep.specs.computed.Table.{bestOf, marks, everything}
 use Rattle.kep.specs.Exchange.{headOf}
-use Rattle.kep.specs.Plan.{inOrder, recordsOf, Best, recordForm, FitRecords}
+use Rattle.kep.specs.Plan.{inOrder, recordsOf, recordForm, FitRecords}
+use Rattle.kep.specs.inner.Best.{BestLegal}
 use Rattle.kep.proofs.Tests.{below, compared, Compared, equal, above}
 use Rattle.kep.proofs.Each.{each-first, each-map, each-both}
 use Rattle.kep.proofs.SetLaws.{nonempty, IsLowest}
-use Rattle.kep.proofs.Parts.{in-rest, part-le}
+use Rattle.kep.proofs.Parts.{in-rest, part-le, part-refl}
 use Rattle.kep.proofs.Vertices.{in-power, power-part, in-without}
 use Rattle.kep.proofs.SetOf.{has-setOf, part-setOf}
 use Rattle.kep.proofs.Worth.{list-worth, total-append}
-use Rattle.kep.proofs.BestTable.{best-with, best-avoids, best-choice}
+use Rattle.kep.proofs.BestTable.{best-with, best-avoids, best-choice, best-marked}
 use Rattle.kep.proofs.Walks.{first-lowest}
 use Rattle.kep.proofs.ExchangeFacts.{Told, exchange-distinct, exchange-below, exchange-member, exchange-some, fits-few}
 use Rattle.kep.proofs.EntryMeaning.{told-marked, marked-told}
@@ -47,6 +48,10 @@ module _ (g : Graph) (lc lp : ℕ) (w : ℕ → ℕ) where
         marked = told-marked g lc lp (setOf xs) xs t refl;
         inside = i;
       }
+
+  -- so its entry in the best table is what it is worth
+  pub told-best : {xs : List ℕ} → Told g lc lp xs → bestIn (setOf xs) ≡ total w xs
+  told-best {xs} t = let m = told-part t (part-refl (setOf xs)) in best-marked w (marks g lc lp) (g .size) (m .nonempty) (m .marked) ∙ told-worth t
 
   -- an exchange inside U and the best of what it leaves are together at most the best of U
   together-bound : {U : ℕ} {xs : List ℕ} → Told g lc lp xs → Part (setOf xs) U → total w xs + bestIn (U - setOf xs) ≤ bestIn U
@@ -271,12 +276,12 @@ module _ (g : Graph) (lc lp : ℕ) (w : ℕ → ℕ) where
         go rest (later l) = ≺-before (l p)
 
     -- so it is what is asked for, among all legal plans, told in any order with cycles begun anywhere
-    pub chosen-best : {p : List (List ℕ)} → Chosen (everything g) p → Best w g lc lp (recordForm g p) (bestIn (everything g))
+    pub chosen-best : {p : List (List ℕ)} → Chosen (everything g) p → BestLegal w g lc lp (recordForm g p) (bestIn (everything g))
     unfolding recordForm
     chosen-best {p} c =
         let o : Optimal (everything g) p = chosen-optimal c in
         record {
-          legal = (p, plan-legal g lc lp (o .plan), refl, o .greatest);
+          plan = (p, plan-legal g lc lp (o .plan), refl, o .greatest);
           greatest = λ q l. legal-bound q l;
           first = λ q l e.
               rw (plan-in-order g lc lp (o .plan)) (chosen-first c (record { plan = legal-plan g lc lp q l; greatest = in-order-total w q ∙ e }));

@@ -44,6 +44,9 @@ pub mod Answer
 pub mod OneForm
 pub mod Retelling
 pub mod FormStarts
+-- members first, then weeks
+pub mod Digits
+pub mod Weeks
 -- the first plan, chosen exchange by exchange
 pub mod Canonical
 pub mod Greedy

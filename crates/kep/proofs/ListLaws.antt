@@ -9,7 +9,7 @@ use native.Mathlib.Omega.{arith}
 use lib.Dec.{eqb, T, eqb→eq, T-not, not-T}
 use lib.ListN.{length}
 use Rattle.kep.specs.Lists.{all, elem, distinct, Each, none, also, upto}
-use Rattle.kep.proofs.Tests.{if-and, if-or, if-not, or-cases, or-left, eq→eqb, or-right, and-left, and-right, and-both, and-iff, eqb-sym}
+use Rattle.kep.proofs.Tests.{if-and, if-or, if-not, or-cases, or-left, eq→eqb, or-right, and-left, and-right, and-both, and-iff, eqb-sym, is-true, is-false}
 use Rattle.kep.proofs.Each.{each-of, each-at}
 
 -- ---- the tests by their clauses, at the front
@@ -163,3 +163,10 @@ all-below p k = (
   λ t x h. each-at (all-each p (upto k 0) t) (upto-in k 0 x zero-le (rw zero-add h)),
   λ f. each-all p (each-of (upto k 0) (λ x m. f x (rw zero-add at (upto-out k 0 m .1)))),
 )
+
+-- as a loop finds it: all pass, or one fails
+pub all-pass : (p : ℕ → Bool) (k : ℕ) → ((x : ℕ) → x < k → T (p x)) → true ≡ all p (upto k 0)
+all-pass p k f = sym (is-true (all p (upto k 0)) (all-below p k .1 f))
+
+pub one-fails : (p : ℕ → Bool) (k : ℕ) {x : ℕ} → x < k → (T (p x) → ⊥) → false ≡ all p (upto k 0)
+one-fails p k {x} h n = sym (is-false (all p (upto k 0)) (λ t. n (all-below p k .0 t x h)))

@@ -16,7 +16,7 @@ use Rattle.kep.proofs.Tests.{and-iff}
 use Rattle.kep.proofs.ListLaws.{distinct-rest}
 use Rattle.kep.proofs.SetLaws.{has-none, same-set}
 use Rattle.kep.proofs.Parts.{has-sum, part-le, rest-disjoint, has-and}
-use Rattle.kep.proofs.Vertices.{has-power, power-disjoint, in-where, ones-with}
+use Rattle.kep.proofs.Vertices.{has-power, power-disjoint, power-part, in-where, ones-with}
 use Rattle.kep.proofs.SetOf.{setOf-new}
 
 -- the worth of the union of disjoint sets is the sum of theirs
@@ -37,6 +37,17 @@ pub worth-rest : (w : ℕ → ℕ) (k : ℕ) {t s : ℕ} → Part t s → worthO
 worth-rest w k {t} {s} h =
     let whole : t + (s - t) ≡ s = omega (arith, part-le h) in
     sym (worth-sum w k (rest-disjoint h)) ∙ ap (worthOf w k) whole
+
+-- what is counted or not
+pub counted-le : (b : Bool) (n : ℕ) → counted b n ≤ n
+counted-le true n = omega arith
+counted-le false n = omega arith
+
+-- worths that agree below k
+pub worth-same : (w w′ : ℕ → ℕ) (k s : ℕ) → ((x : ℕ) → x < k → w x ≡ w′ x) → worthOf w k s ≡ worthOf w′ k s
+unfolding worthOf
+worth-same w w′ zero s same = refl
+worth-same w w′ (suc k) s same = rw (worth-same w w′ k s (λ x l. same x (omega arith)), same k (omega arith))
 
 -- k vertices of worth at most c each
 pub worth-le : (w : ℕ → ℕ) (k s c : ℕ) → ((x : ℕ) → x < k → w x ≤ c) → worthOf w k s ≤ k * c
@@ -64,7 +75,7 @@ worth-power w (suc k) x l = go (eq-or-lt-of-le (le-of-suc-le-suc l)) (worth-powe
     go (inl e) ih = rw (has-power x k, eq-eqb k x (sym e), power-above w k x (omega arith), e) (omega arith)
     go (inr l) ih = rw (has-power x k, ne-eqb k x (λ e. omega arith), ih l) (omega arith)
 
-worth-none : (w : ℕ → ℕ) (k : ℕ) → worthOf w k 0 ≡ 0
+pub worth-none : (w : ℕ → ℕ) (k : ℕ) → worthOf w k 0 ≡ 0
 unfolding worthOf
 worth-none w zero = refl
 worth-none w (suc k) = rw (worth-none w k, has-none k)
@@ -74,6 +85,10 @@ unfolding setOf total
 list-worth w k [] d none = worth-none w k
 list-worth w k (x ∷ xs) d (also l ls) =
     worth-sum w k (power-disjoint x (setOf xs) (setOf-new x xs d)) ∙ ap₂ _+_ (worth-power w k x l) (list-worth w k xs (distinct-rest x xs d) ls)
+
+-- the worth of a set by that of the set without one of its vertices
+pub worth-without : (w : ℕ → ℕ) (k s x : ℕ) → x < k → T (has s x) → worthOf w k s ≡ worthOf w k (s - 2 ^ x) + w x
+worth-without w k s x l h = omega (arith, worth-rest w k (power-part s x h), worth-power w k x l)
 
 -- lists put together
 pub total-append : (w : ℕ → ℕ) (xs ys : List ℕ) → total w (xs ++ ys) ≡ total w xs + total w ys

@@ -6,10 +6,10 @@ use mathlib.Core.List.{List, [], _∷_, _++_}
 use Prim.Native.Nat.{ℕ, _-_, _≤_}
 use lib.ListN.{length, replicate}
 use lib.Dec.{T, ltb}
-use Rattle.kep.specs.Lists.{distinct, total, flat, before}
+use Rattle.kep.specs.Lists.{distinct, flat, before}
 use Rattle.kep.specs.Graph.{Graph, isAltruist}
 use Rattle.kep.specs.Exchange.{isExchange, turned, headOf}
-use Rattle.kep.specs.Table.{memberWorth, served}
+use Rattle.kep.specs.Table.{served, waited}
 
 -- each of the lists is an exchange
 unfoldable pub allExchanges : Graph → ℕ → ℕ → List (List ℕ) → Bool
@@ -57,18 +57,24 @@ pub record FitRecords (g : Graph) (lc lp : ℕ) : Type 0 where
 
 -- ---- what is best
 
--- records and a count are those of the answer, for the worth w of a vertex: of the legal plans one that is worth most, and of those the one whose records come
--- first. Document 01's worth is `memberWorth g`: a plan "covering maximum number of non-altruistic vertices" (001, (Lc, Lp)-KEP)
-pub record Best (w : ℕ → ℕ) (g : Graph) (lc lp : ℕ) (records : List ℕ) (count : ℕ) : Type 0 where
-  pub legal : (p : List (List ℕ)) × T (isLegal g lc lp p) × (recordForm g p ≡ records) × (total w (flat p) ≡ count)
-  pub greatest : (q : List (List ℕ)) → T (isLegal g lc lp q) → total w (flat q) ≤ count
-  pub first : (q : List (List ℕ)) → T (isLegal g lc lp q) → total w (flat q) ≡ count → T (before records (recordForm g q))
+-- records and a count are those of the best of the plans allowed, where each vertex has waited some weeks:
+pub record Best (Allowed : List (List ℕ) → Type 0) (g : Graph) (weeks : ℕ → ℕ) (records : List ℕ) (count : ℕ) : Type 0 where
+  -- a plan allowed has these records and serves so many members;
+  pub plan : List (List ℕ)
+  pub allowed : Allowed plan × (recordForm g plan ≡ records) × (served g (flat plan) ≡ count)
+  -- none serves more members: it is one "covering maximum number of non-altruistic vertices" (001, (Lc, Lp)-KEP);
+  pub most-members : (q : List (List ℕ)) → Allowed q → served g (flat q) ≤ count
+  -- of those that serve as many none has more weeks;
+  pub most-weeks : (q : List (List ℕ)) → Allowed q → served g (flat q) ≡ count → waited g weeks (flat q) ≤ waited g weeks (flat plan)
+  -- of those that also have as many weeks none has a record form that comes before.
+  pub first : (q : List (List ℕ)) → Allowed q → served g (flat q) ≡ count → waited g weeks (flat q) ≡ waited g weeks (flat plan)
+      → T (before records (recordForm g q))
 
 -- the zero clause: the count is 0 exactly where there is no exchange
 abbrev pub ZeroClause : Graph → ℕ → ℕ → ℕ → Type 0
 ZeroClause g lc lp count = (count ≡ 0) ↔ ((xs : List ℕ) → T (isExchange g lc lp xs) → ⊥)
 
--- demand 3 of document 01
-pub record Optimum (g : Graph) (lc lp : ℕ) (records : List ℕ) (count : ℕ) : Type 0 where
-  pub best : Best (memberWorth g) g lc lp records count
+-- demand 3 of document 01, with P3: the best of the legal plans, and the zero clause
+pub record Optimum (g : Graph) (weeks : ℕ → ℕ) (lc lp : ℕ) (records : List ℕ) (count : ℕ) : Type 0 where
+  pub best : Best (λ p. T (isLegal g lc lp p)) g weeks records count
   pub zero-clause : ZeroClause g lc lp count

@@ -6,7 +6,7 @@
 // | S | set | vertex, set (2) | | | lowest, size, with the vertex, without it, 1 where it has it and else 0 |
 // | L | limits | Lc, Lp | | | 0, Lc, Lp, or the number and spot of the refusal |
 // | R | record k | 0, length (2) | k | 256 bytes, of which the first are the plan | the record's length and bytes |
-// | V | clear a pool value | Lc, Lp | | 30 bytes: places, houses and 14 sets | 0, served, records and all bytes of the plan, or the number and spot of the refusal |
+// | V | clear a pool value | Lc, Lp | | 58 bytes: places, houses, 14 sets and the weeks of 14 places | 0, served, records and all bytes of the plan, or the number and spot of the refusal |
 mod numbers;
 mod values;
 

@@ -17,7 +17,7 @@ pub(crate) fn say_refused(refusal: Refusal) {
 
 pub(crate) fn clear_next(limits: Limits) {
     let mut exchanges = [0u16; 16384];
-    let mut best = [0u8; 16384];
+    let mut best = [0u32; 16384];
     let mut plan = [0u8; 224];
     let pool = next_value();
     let cleared = clear_value(pool, limits, &mut exchanges, &mut best, &mut plan);
@@ -32,18 +32,29 @@ pub(crate) fn clear_next(limits: Limits) {
     }
 }
 
+// Places, houses, the sets and the weeks.
 fn next_value() -> Pool {
-    let mut bytes = [0u8; 30];
+    let mut counts = [0u8; 2];
+    io::read_full(STDIN_FILENO, &mut counts);
+    let gives = next_numbers();
+    let weeks = next_numbers();
+    Pool {
+        size: counts[0],
+        altruists: counts[1],
+        gives,
+        weeks,
+    }
+}
+
+// Fourteen numbers of two bytes.
+fn next_numbers() -> [u16; 14] {
+    let mut bytes = [0u8; 28];
     io::read_full(STDIN_FILENO, &mut bytes);
-    let mut gives = [0u16; 14];
+    let mut numbers = [0u16; 14];
     let mut v: usize = 0;
     while v < 14 {
-        gives[v] = of_two(bytes[2 + 2 * v], bytes[3 + 2 * v]);
+        numbers[v] = of_two(bytes[2 * v], bytes[2 * v + 1]);
         v += 1;
     }
-    Pool {
-        size: bytes[0],
-        altruists: bytes[1],
-        gives,
-    }
+    numbers
 }

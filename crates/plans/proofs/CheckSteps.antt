@@ -1,5 +1,5 @@
 -- Laws for code that checks a plan record by record and keeps the vertices met as a set.
-use mathlib.Core.Bool.{Bool, true, false, not}
+use mathlib.Core.Bool.{false, not}
 use mathlib.Core.List.{List, [], _∷_, _++_, append-nil, List·Memᴰ, List·Memᴰ·head}
 use mathlib.Core.Logic.{_↔_, ⊎-elim}
 use mathlib.Core.Path.{_≡_, refl, sym, _∙_, ap}
@@ -11,7 +11,7 @@ use lib.ListN.{length, drop}
 use lib.Seq.{append-snoc}
 use Rattle.kep.specs.Lists.{Each, none, elem, distinct, total, cut}
 use Rattle.kep.specs.Graph.{Graph, isMember}
-use Rattle.kep.specs.Sets.{has, setOf, counted, worthOf}
+use Rattle.kep.specs.Sets.{has, setOf, worthOf}
 use Rattle.pool.specs.Refusals.{accepted, refused, tested}
 use Rattle.kep.specs.Exchange.{headOf}
 use Rattle.kep.specs.Table.{memberWorth, served}
@@ -26,7 +26,7 @@ use Rattle.pool.proofs.Tested.{all-held}
 use Rattle.pool.specs.Causes.{Pass}
 use Rattle.kep.proofs.Vertices.{or-with}
 use Rattle.kep.proofs.SetOf.{has-setOf, setOf-snoc}
-use Rattle.kep.proofs.Worth.{total-append, list-worth, worth-le}
+use Rattle.kep.proofs.Worth.{counted-le, total-append, list-worth, worth-le}
 use Rattle.plans.proofs.CheckRecord.{no-cause-passes}
 use Rattle.plans.proofs.CheckPlan.{check-next, check-stop, check-end}
 use Rattle.plans.proofs.Checked.{check-whole}
@@ -85,11 +85,6 @@ kept-added [] k f = rw append-nil k
 kept-added (x ∷ xs) {met} k f = rw (append-snoc met x xs) at (kept-added xs (kept-one k x (fresh-unseen k x xs f)) (rw (append-snoc met x xs) f))
 
 -- ---- what is left to check
-
--- what is counted or not is no more than itself
-counted-le : (b : Bool) (n : ℕ) → counted b n ≤ n
-counted-le true n = omega arith
-counted-le false n = omega arith
 
 pub served-most : (g : Graph) (xs : List ℕ) → served g xs ≤ length xs
 unfolding total

@@ -2,25 +2,29 @@
 use mathlib.Core.Bool.{Bool, true, false, not, _&&_, _||_}
 use mathlib.Core.List.{List}
 use mathlib.Core.Logic.{_↔_}
-use mathlib.Core.Path.{_≡_, sym}
+use mathlib.Core.Path.{_≡_}
 use Prim.Native.Nat.{ℕ, _-_, _*_, _%_, _^_, _≤_, _<_}
 use native.Mathlib.Decide.{decLt}
+use native.Mathlib.Nat.{le-trans, mul-le-mul-right}
 use native.Mathlib.Omega.{arith}
+use borrow.Author.Tests.{lt-ltb}
 use lib.Bits.{bitAnd}
 use lib.Dec.{T, ltb, leb, ltb→lt, lt→ltb, leb→le, le→leb}
 use lib.ListN.{length, getD, List·getD-eq-default}
 use lib.Pow.{pow-mono}
 use Rattle.pool.specs.declared.value.Pool.{Pool}
-use Rattle.kep.specs.Sets.{has, counted, setWhere, Part}
-use Rattle.kep.specs.Graph.{WellFormed, givers}
-use Rattle.pool.specs.Value.{graphOf, arcAllowed, takersFit, arcsFit, poolFits}
-use Rattle.kep.proofs.Tests.{and-iff₃, implies-iff, is-true, is-false}
+use Rattle.kep.specs.Sets.{has, counted, setWhere, worthOf, Part}
+use Rattle.kep.specs.Graph.{WellFormed, isMember, givers}
+use Rattle.kep.specs.Table.{weeksWorth, perMember}
+use Rattle.pool.specs.Value.{graphOf, arcAllowed, takersFit, arcsFit, weeksIn, mostWeeks, weeksFit, poolFits}
+use Rattle.kep.proofs.Tests.{and-iff, and-iff₃, implies-iff}
 use Rattle.kep.proofs.ListLaws.{all-below}
 use Rattle.kep.proofs.SetLaws.{has-below, not-in-empty}
 use Rattle.kep.proofs.Parts.{part-and, part-of-and}
 use Rattle.kep.proofs.Vertices.{in-where}
 use Rattle.kep.proofs.Operations.{one-shl}
 use Rattle.kep.proofs.SetLoops.{where-reach}
+use Rattle.kep.proofs.Worth.{counted-le, worth-le}
 
 -- the takers allowed: the members where u is a place, and else nobody
 abbrev pub takersAllowed : ℕ → ℕ → ℕ → ℕ
@@ -57,23 +61,15 @@ module _ (size altruists : ℕ) (gives : List ℕ) where
       → (bitAnd (getD gives u 0) allowed ≡ getD gives u 0 → ⊥) → T (takersFit size altruists gives u) → ⊥
   takers-fail u b e n t = n (rw e (part-and (takers-part u b .0 t)))
 
-  -- all arcs are allowed where those from each of the 14 places are
-  pub arcs-pass : ((u : ℕ) → u < 14 → T (takersFit size altruists gives u)) → true ≡ arcsFit size altruists gives
-  unfolding arcsFit
-  arcs-pass f = sym (is-true _ (all-below (takersFit size altruists gives) 14 .1 f))
-
-  pub arcs-fail : (u : ℕ) → u < 14 → (T (takersFit size altruists gives u) → ⊥) → false ≡ arcsFit size altruists gives
-  unfolding arcsFit
-  arcs-fail u h n = sym (is-false _ (λ t. n (all-below (takersFit size altruists gives) 14 .0 t u h)))
-
 -- ---- the test
 
 module _ (p : Pool) where
-  pub fits-iff : T (poolFits p) ↔ ((p .size ≤ 14) × (p .altruists ≤ p .size) × T (arcsFit (p .size) (p .altruists) (p .gives)))
+  pub fits-iff : T (poolFits p) ↔ ((p .size ≤ 14) × (p .altruists ≤ p .size) × T (arcsFit (p .size) (p .altruists) (p .gives)) × T (weeksFit (p .size) (p .weeks)))
   fits-iff =
-      let (to, from) = and-iff₃ (leb (p .size) 14) (leb (p .altruists) (p .size)) (arcsFit (p .size) (p .altruists) (p .gives)) in (
-        λ t. let (a, b, c) = to t in (leb→le (p .size) 14 a, leb→le (p .altruists) (p .size) b, c),
-        λ h. from (le→leb (p .size) 14 (h .0), le→leb (p .altruists) (p .size) (h .1), h .2),
+      let (to, from) = and-iff₃ (leb (p .size) 14) (leb (p .altruists) (p .size)) (arcsFit (p .size) (p .altruists) (p .gives)) in
+      let last = and-iff (leb (p .size) 14 && leb (p .altruists) (p .size) && arcsFit (p .size) (p .altruists) (p .gives)) (weeksFit (p .size) (p .weeks)) in (
+        λ t. let (a, b, c) = to (last .0 t .0) in (leb→le (p .size) 14 a, leb→le (p .altruists) (p .size) b, c, last .0 t .1),
+        λ h. last .1 (from (le→leb (p .size) 14 (h .0), le→leb (p .altruists) (p .size) (h .1), h .2), h .3),
       )
 
 -- ---- the graph of a pool value that passes
@@ -105,6 +101,19 @@ module _ (p : Pool) where
 
     pub fits-altruists : p .altruists ≤ p .size
     fits-altruists = fits-iff p .0 fits .1
+
+    -- no place has waited longer than it may
+    pub fits-weeks : (v : ℕ) → v < p .size → weeksIn p v ≤ mostWeeks
+    unfolding weeksFit
+    fits-weeks v l =
+        let within = all-below (λ v. leb (weeksIn p v) (counted (ltb v (p .size)) mostWeeks)) 14 .0 (fits-iff p .0 fits .3) v (omega (arith, fits-size)) in
+        rw (lt-ltb v (p .size) l) at (leb→le (weeksIn p v) (counted (ltb v (p .size)) mostWeeks) within)
+
+    -- so the weeks in any set are less than a member counts
+    pub few-weeks : (s : ℕ) → worthOf (weeksWorth (graphOf p) (weeksIn p)) (p .size) s < perMember
+    few-weeks s =
+        let most = worth-le (weeksWorth (graphOf p) (weeksIn p)) (p .size) s mostWeeks (λ x l. le-trans (counted-le (isMember (graphOf p) x) (weeksIn p x)) (fits-weeks x l)) in
+        omega (arith, most, mul-le-mul-right mostWeeks fits-size)
 
     -- its arcs lead from places that are there to members
     pub fits-formed : WellFormed (graphOf p)

@@ -6,7 +6,7 @@ use lib.Dec.{leb, ltb}
 use lib.ListN.{getD, replicate}
 use Rattle.pool.specs.declared.value.Pool.{Pool}
 use Rattle.kep.specs.Lists.{all, upto}
-use Rattle.kep.specs.Sets.{has}
+use Rattle.kep.specs.Sets.{has, counted}
 use Rattle.kep.specs.Graph.{Graph}
 use Rattle.pool.specs.Refusals.{Outcome, accepted, tested}
 
@@ -20,9 +20,14 @@ graphOf p = record {
 
 -- the pool with no place
 abbrev pub emptyPool : Pool
-emptyPool = record { size = 0; altruists = 0; gives = replicate 14 0 }
+emptyPool = record { size = 0; altruists = 0; gives = replicate 14 0; weeks = replicate 14 0 }
 
--- ---- 6: over 14 places, more houses than places, arc into a house or from or to a place that isn't there
+-- the weeks that a place has waited
+abbrev pub weeksIn : Pool → ℕ → ℕ
+weeksIn p v = getD (p .weeks) v 0
+
+-- ---- 6: over 14 places, more houses than places, arc into a house or from or to a place that isn't there; weeks above 999, or other than 0 for a place
+-- that isn't there
 
 -- an arc from u to v is one from a place that is there to a member that is there
 abbrev pub arcAllowed : ℕ → ℕ → ℕ → ℕ → Bool
@@ -36,9 +41,17 @@ takersFit size altruists gives u = all (λ v. not (has (getD gives u 0) v) || ar
 unfoldable pub arcsFit : ℕ → ℕ → List ℕ → Bool
 arcsFit size altruists gives = all (takersFit size altruists gives) (upto 14 0)
 
+-- the most weeks that a place may have waited
+abbrev pub mostWeeks : ℕ
+mostWeeks = 999
+
+-- none has waited longer, and what isn't there has not waited
+unfoldable pub weeksFit : ℕ → List ℕ → Bool
+weeksFit size weeks = all (λ v. leb (getD weeks v 0) (counted (ltb v size) mostWeeks)) (upto 14 0)
+
 -- a pool value that is one
 abbrev pub poolFits : Pool → Bool
-poolFits p = leb (p .size) 14 && leb (p .altruists) (p .size) && arcsFit (p .size) (p .altruists) (p .gives)
+poolFits p = leb (p .size) 14 && leb (p .altruists) (p .size) && arcsFit (p .size) (p .altruists) (p .gives) && weeksFit (p .size) (p .weeks)
 
 -- the test of a pool value by itself
 unfoldable pub testPool : Pool → Outcome Pool

@@ -11,7 +11,7 @@ ghost use lib.ListN.{length, getD};
 ghost use Rattle.kep.specs.Graph.{isMember};
 ghost use Rattle.kep.specs.Sets.{has, setWhere};
 ghost use Rattle.pool.specs.Refusals.{outcomeOf};
-ghost use Rattle.pool.specs.Value.{graphOf, testPool, poolFits, arcsFit, emptyPool};
+ghost use Rattle.pool.specs.Value.{graphOf, testPool, poolFits, arcsFit, weeksFit, emptyPool};
 
 pub struct Pool {
     // The places: vertices 0 to size - 1.
@@ -20,9 +20,13 @@ pub struct Pool {
     pub altruists: u8,
     // For each place the set of the places that it gives to.
     pub gives: [u16; 14],
+    // For each place the weeks that it has waited; a house's count nowhere.
+    pub weeks: [u16; 14],
 }
 
 impl Pool {
+    pub const MOST_WEEKS: u16 = 999;
+
     // The pool with no place: what stands beside a refusal.
     pub fn empty() -> Pool
         ensures { λ r. ⌜ r ≡ emptyPool ⌝ }
@@ -31,10 +35,12 @@ impl Pool {
             size: 0,
             altruists: 0,
             gives: [0u16; 14],
+            weeks: [0u16; 14],
         }
     }
 
-    // Cause 6: over 14 places, more houses than places, an arc into a house or from or to a place that is not there.
+    // Cause 6: over 14 places, more houses than places, an arc into a house or from or to a place that is not there, weeks above 999
+    // or of a place that is not there.
     pub fn test(self) -> Verdict
         ensures { λ r. ⌜ outcomeOf r self ≡ testPool self ⌝ }
     {
@@ -72,13 +78,14 @@ impl Pool {
         let size = self.size;
         let altruists = self.altruists;
         let gives = self.gives;
+        let weeks = self.weeks;
         if 14 < size {
             return false;
         }
         if size < altruists {
             return false;
         }
-        arcs_fit(size, altruists, &gives)
+        arcs_fit(size, altruists, &gives) & weeks_fit(size, &weeks)
     }
 }
 
@@ -114,6 +121,23 @@ fn arcs_fit(size: u8, altruists: u8, gives: &[u16]) -> bool
             return false;
         }
         u += 1;
+    }
+    true
+}
+
+// Has no place waited longer than it may, and what is not there not at all?
+fn weeks_fit(size: u8, weeks: &[u16]) -> bool
+    requires { ⌜ length (now weeks) ≡ 14 ⌝ }
+    ensures { λ r. ⌜ r ≡ weeksFit size (now (weeks .entry)) ⌝ }
+{
+    let places = size as usize;
+    let mut v: usize = 0;
+    while v < 14 {
+        let most = if v < places { Pool::MOST_WEEKS } else { 0 };
+        if most < weeks[v] {
+            return false;
+        }
+        v += 1;
     }
     true
 }

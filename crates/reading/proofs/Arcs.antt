@@ -1,6 +1,6 @@
 -- Whether one record gives to another, and the set of the places that a place gives to, as code finds them.
 use mathlib.Core.Bool.{Bool, true, false, and-false}
-use mathlib.Core.List.{List, []}
+use mathlib.Core.List.{List, [], _++_}
 use mathlib.Core.Logic.{_≢_}
 use mathlib.Core.Path.{_≡_, sym, ap, ap₂, _∙_}
 use Prim.Native.Nat.{ℕ, zero, suc, _+_, _-_, _*_, _/_, _%_, _^_, _≤_, _<_}
@@ -9,9 +9,10 @@ use native.Mathlib.Omega.{arith}
 use lib.Dec.{leb}
 use lib.ListN.{length, getD, take, drop, replicate}
 use borrow.Author.Tests.{eq-eqb, ne-eqb}
+use Rattle.kep.specs.Lists.{tabulate}
 use Rattle.kep.specs.Sets.{has, setWhere, withVertex}
 use Rattle.reading.specs.Fields.{recordWidth, mostRecords, recordKind, classOf, gradeOf, leastOf, takenOf, tellsMember, poolRecords}
-use Rattle.reading.specs.computed.Pool.{recordGives, takersOf}
+use Rattle.reading.specs.computed.Pool.{recordGives, takersOf, forPlaces}
 use Rattle.kep.proofs.Tests.{is-false}
 use Rattle.kep.proofs.SetLaws.{has-below}
 use Rattle.kep.proofs.SetLoops.{made-with, made-without}
@@ -70,3 +71,10 @@ pub replicate-behind : (k n : ℕ) → k ≤ n → drop k (replicate {A = ℕ} n
 replicate-behind zero n h = rw sub-zero
 replicate-behind (suc k) zero h = absurd (omega arith)
 replicate-behind (suc k) (suc n) h = replicate-behind k n (omega arith) ∙ ap (λ j. replicate {A = ℕ} j 0) (sym (suc-sub-suc n k))
+
+-- ---- a number for each place, as a loop fills an array with them
+
+pub places-filled : (f : ℕ → ℕ) {places u : ℕ} {filled : List ℕ} → places ≤ mostRecords → u ≡ places → filled ≡ tabulate f u ++ drop u (replicate mostRecords 0)
+    → filled ≡ forPlaces f places
+places-filled f {places} few done e =
+    e ∙ ap (λ k. tabulate f k ++ drop k (replicate mostRecords 0)) done ∙ ap (λ r. tabulate f places ++ r) (replicate-behind places mostRecords few)

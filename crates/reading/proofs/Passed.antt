@@ -11,6 +11,7 @@ use lib.Seq.{append-snoc}
 use Rattle.kep.specs.Lists.{Each, none, also}
 use Rattle.pool.specs.Causes.{Pass}
 use Rattle.pool.specs.Refusals.{Outcome, accepted}
+use Rattle.pool.specs.Value.{mostWeeks}
 use Rattle.reading.specs.Records.{takesNothing, noneOf, fieldTests, recordsTested}
 use Rattle.reading.specs.Fields.{tellsHouse, tellsMember, classOf, gradeOf, leastOf, takenOf, weeksOf, machineOf}
 use Rattle.kep.proofs.Tests.{and-iff, or-cases, implies-iff, differ-iff}
@@ -23,14 +24,14 @@ pub record Passes (before : List (List ℕ)) (r : List ℕ) : Type 0 where
   pub grades : (gradeOf r ≤ 100) × (leastOf r ≤ 100)
   pub takes-nothing : T (tellsHouse r) → (leastOf r ≡ 0) × (takenOf r ≡ 0)
   pub in-turn : T (tellsHouse r) → T (noneOf tellsMember before)
-  pub weeks : weeksOf r ≤ 999
+  pub weeks : weeksOf r ≤ mostWeeks
   pub machine : 0 < machineOf r
 
 passes : {before : List (List ℕ)} {r : List ℕ} → Each Pass (fieldTests before r) → Passes before r
 unfolding fieldTests
 passes {before} {r} (also k (also c (also g (also n (also t (also w none)))))) =
     let (high, least) = and-iff (leb (gradeOf r) 100) (leb (leastOf r) 100) .0 g in
-    let (weeks, machine) = and-iff (leb (weeksOf r) 999) (not (eqb (machineOf r) 0)) .0 w in
+    let (weeks, machine) = and-iff (leb (weeksOf r) mostWeeks) (not (eqb (machineOf r) 0)) .0 w in
     record {
       kind = or-cases (tellsHouse r) (tellsMember r) k;
       class = leb→le (classOf r) 31 c;
@@ -40,7 +41,7 @@ passes {before} {r} (also k (also c (also g (also n (also t (also w none)))))) =
           let (no-least, none-taken) = and-iff (eqb (leastOf r) 0) (eqb (takenOf r) 0) .0 (implies-iff (tellsHouse r) (takesNothing r) .0 n h) in
           (eqb→eq (leastOf r) 0 no-least, eqb→eq (takenOf r) 0 none-taken);
       in-turn = implies-iff (tellsHouse r) (noneOf tellsMember before) .0 t;
-      weeks = leb→le (weeksOf r) 999 weeks;
+      weeks = leb→le (weeksOf r) mostWeeks weeks;
       machine = let other = differ-iff (machineOf r) 0 .0 machine in omega arith;
     }
 

@@ -5,15 +5,15 @@ use mathlib.Core.Path.{_≡_, refl, sym, ap, _∙_}
 use Prim.Native.Nat.{ℕ, _-_, _/_, _%_, _≤_, _<_}
 use native.Mathlib.Omega.{arith}
 use lib.Dec.{eqb→eq, leb→le, le→leb}
-use lib.ListN.{length, replicate}
+use lib.ListN.{length}
 use Rattle.pool.specs.declared.refusal.Cause.{Cause}
 use Rattle.pool.specs.declared.refusal.Verdict.the-variants as verdict
 use Rattle.pool.specs.declared.value.Pool.{Pool}
 use Rattle.reading.specs.declared.pool_bytes.PoolAnswer.{PoolAnswer}
-use Rattle.kep.specs.Lists.{tabulate, none, also}
+use Rattle.kep.specs.Lists.{none, also}
 use Rattle.pool.specs.Refusals.{numberOf, Outcome, accepted, refused, outcomeOf, tested, andThen}
 use Rattle.reading.specs.Records.{lengthTests, fieldTests, recordsTested, readPool, poolBeside}
-use Rattle.reading.specs.computed.Pool.{takersOf, poolOf}
+use Rattle.reading.specs.computed.Pool.{takersOf, weeksAt, forPlaces, poolOf}
 use Rattle.reading.specs.Fields.{recordWidth, mostRecords, poolRecords}
 use Rattle.reading.specs.inner.Reading.{refusedAnswer}
 use Rattle.kep.proofs.Tests.{eq→eqb}
@@ -76,9 +76,10 @@ answer-refused bytes c at e f = rw e (f, ap poolBeside f)
 pub answer-accepted : (bytes : List ℕ) (p : Pool) → accepted p ≡ readPool bytes → Answers bytes (record { verdict = verdict.Accepted; pool = p })
 answer-accepted bytes p f = (f, ap poolBeside f)
 
--- the pool put together from what was counted and from the takers
-pub pool-read : (bytes : List ℕ) {size altruists : ℕ} {gives : List ℕ} → size ≡ length bytes / recordWidth → altruists ≡ houses (poolRecords bytes)
-    → gives ≡ tabulate (takersOf (poolRecords bytes)) (length bytes / recordWidth) ++ replicate (mostRecords - length bytes / recordWidth) 0
-    → record { size = size; altruists = altruists; gives = gives } ≡ poolOf (poolRecords bytes)
+-- the pool put together from what was counted, the takers and the weeks
+pub pool-read : (bytes : List ℕ) {size altruists : ℕ} {gives weeks : List ℕ} → size ≡ length bytes / recordWidth → altruists ≡ houses (poolRecords bytes)
+    → gives ≡ forPlaces (takersOf (poolRecords bytes)) (length bytes / recordWidth)
+    → weeks ≡ forPlaces (weeksAt (poolRecords bytes)) (length bytes / recordWidth)
+    → record { size = size; altruists = altruists; gives = gives; weeks = weeks } ≡ poolOf (poolRecords bytes)
 unfolding poolOf
-pool-read bytes p q r = rw (p, q, r, length-cut recordWidth (length bytes / recordWidth) bytes)
+pool-read bytes p q r t = rw (p, q, r, t, length-cut recordWidth (length bytes / recordWidth) bytes)

@@ -6,17 +6,18 @@ use mathlib.Core.Path.{_≡_, refl, ap, _∙_}
 use Prim.Native.Nat.{ℕ, zero, suc, _-_, _/_, _%_, _≤_, _<_}
 use native.Mathlib.Decide.{decLt}
 use native.Mathlib.Omega.{arith}
+use borrow.Author.Tests.{lt-ltb, le-ltb}
 use lib.Dec.{T, leb, ltb, eqb→eq, leb→le, le→leb, lt→ltb, T-not}
 use lib.ListN.{length, getD, take, replicate}
 use Rattle.pool.specs.declared.value.Pool.{Pool}
 use Rattle.kep.specs.Lists.{keep}
-use Rattle.kep.specs.Sets.{has}
+use Rattle.kep.specs.Sets.{has, counted}
 use Rattle.kep.specs.Graph.{WellFormed}
 use Rattle.pool.specs.Refusals.{Outcome, accepted}
-use Rattle.pool.specs.Value.{graphOf, arcAllowed, arcsFit, takersFit, poolFits}
+use Rattle.pool.specs.Value.{graphOf, arcAllowed, arcsFit, takersFit, weeksIn, mostWeeks, weeksFit, poolFits}
 use Rattle.reading.specs.Records.{lengthTests, noneOf, recordsTested, readPool, GivesTo}
-use Rattle.reading.specs.computed.Pool.{recordGives, takersOf, poolOf}
-use Rattle.reading.specs.Fields.{recordWidth, mostRecords, classOf, gradeOf, leastOf, takenOf, tellsHouse, tellsMember, poolRecords}
+use Rattle.reading.specs.computed.Pool.{recordGives, takersOf, weeksAt, forPlaces, poolOf}
+use Rattle.reading.specs.Fields.{recordWidth, mostRecords, classOf, gradeOf, leastOf, takenOf, weeksOf, tellsHouse, tellsMember, poolRecords}
 use Rattle.kep.proofs.Tests.{is-false, and-left, and-right, and-iff₃, implies-iff}
 use Rattle.kep.proofs.Each.{each-first, each-rest, keep-no, keep-one, keep-length}
 use Rattle.kep.proofs.ListLaws.{all-below}
@@ -69,27 +70,26 @@ getD-zeros zero i = refl
 getD-zeros (suc n) zero = refl
 getD-zeros (suc n) (suc i) = getD-zeros n i
 
+-- the number of place u, and 0 for a place that is not there
+place-at : (f : ℕ → ℕ) (places u : ℕ) → u < places → getD (forPlaces f places) u 0 ≡ f u
+place-at f places u h = getD-tabulate f places u (replicate (mostRecords - places) 0) h
+
+place-behind : (f : ℕ → ℕ) (places u : ℕ) → places ≤ u → getD (forPlaces f places) u 0 ≡ 0
+place-behind f places u h = getD-after f places u (replicate (mostRecords - places) 0) h ∙ getD-zeros (mostRecords - places) (u - places)
+
 module _ {A : Type 0} {a : A} (rs : List (List ℕ)) (few : length rs ≤ mostRecords) (o : Outcome A) (passed : recordsTested [] rs o ≡ accepted a) where
-  -- the set of u, and nothing from a place that is not there
-  gives-at : (u : ℕ) → u < length rs → getD (poolOf rs .gives) u 0 ≡ takersOf rs u
-  unfolding poolOf
-  gives-at u h = getD-tabulate (takersOf rs) (length rs) u (replicate (mostRecords - length rs) 0) h
-
-  gives-behind : (u : ℕ) → length rs ≤ u → getD (poolOf rs .gives) u 0 ≡ 0
-  unfolding poolOf
-  gives-behind u h = getD-after (takersOf rs) (length rs) u (replicate (mostRecords - length rs) 0) h ∙ getD-zeros (mostRecords - length rs) (u - length rs)
-
   -- an arc leads from a place to a member's, by the rule
   pub in-gives : (u v : ℕ) → T (has (getD (poolOf rs .gives) u 0) v) ↔ ((u < length rs) × (v < length rs) × T (recordGives (getD rs u []) (getD rs v [])))
+  unfolding poolOf
   in-gives u v = go (decLt u (length rs))
     where
       go : Dec (u < length rs) → T (has (getD (poolOf rs .gives) u 0) v) ↔ ((u < length rs) × (v < length rs) × T (recordGives (getD rs u []) (getD rs v [])))
-      go (yes h) = rw (gives-at u h) (unfold takersOf in let (to, from) = in-where (length rs) (λ w. recordGives (getD rs u []) (getD rs w [])) v in (λ t. let (l, g) = to t in (h, l, g), λ p. from (p .1, p .2)))
-      go (no n) = rw (gives-behind u (omega arith)) (λ t. absurd (not-in-empty v t), λ p. absurd (n (p .0)))
+      go (yes h) = rw (place-at (takersOf rs) (length rs) u h) (unfold takersOf in let (to, from) = in-where (length rs) (λ w. recordGives (getD rs u []) (getD rs w [])) v in (λ t. let (l, g) = to t in (h, l, g), λ p. from (p .1, p .2)))
+      go (no n) = rw (place-behind (takersOf rs) (length rs) u (omega arith)) (λ t. absurd (not-in-empty v t), λ p. absurd (n (p .0)))
 
   -- it passes the test of a pool value
   pub records-fit : T (poolFits (poolOf rs))
-  unfolding poolOf arcsFit takersFit
+  unfolding poolOf arcsFit takersFit weeksFit
   records-fit =
       fits-iff (poolOf rs) .1 (
         few,
@@ -97,8 +97,14 @@ module _ {A : Type 0} {a : A} (rs : List (List ℕ)) (few : length rs ≤ mostRe
         all-below (takersFit (length rs) (houses rs) (poolOf rs .gives)) 14 .1
             (λ u _. all-below (λ v. not (has (getD (poolOf rs .gives) u 0) v) || arcAllowed (length rs) (houses rs) u v) 16 .1
             (λ v _. implies-iff (has (getD (poolOf rs .gives) u 0) v) (arcAllowed (length rs) (houses rs) u v) .1 (allowed u v))),
+        all-below (λ u. leb (weeksIn (poolOf rs) u) (counted (ltb u (length rs)) mostWeeks)) 14 .1
+            (λ u _. le→leb (weeksIn (poolOf rs) u) (counted (ltb u (length rs)) mostWeeks) (in-weeks u (decLt u (length rs)))),
       )
     where
+      in-weeks : (u : ℕ) → Dec (u < length rs) → weeksIn (poolOf rs) u ≤ counted (ltb u (length rs)) mostWeeks
+      in-weeks u (yes h) = rw (lt-ltb u (length rs) h, place-at (weeksAt rs) (length rs) u h) (each-passed o [] rs passed u h .weeks)
+      in-weeks u (no n) = rw (le-ltb u (length rs) (omega arith), place-behind (weeksAt rs) (length rs) u (omega arith)) (omega arith)
+
       allowed : (u v : ℕ) → T (has (getD (poolOf rs .gives) u 0) v) → T (arcAllowed (length rs) (houses rs) u v)
       allowed u v t =
           let (lu, lv, g) = in-gives u v .0 t in
@@ -140,6 +146,11 @@ module _ (bytes : List ℕ) {p : Pool} (read : readPool bytes ≡ accepted p) wh
 
   pub read-formed : WellFormed (graphOf p)
   read-formed = fits-formed p read-fits
+
+  -- its weeks are those of the records
+  pub read-weeks : (u : ℕ) → u < p .size → weeksIn p u ≡ weeksOf (getD (poolRecords bytes) u [])
+  unfolding poolOf
+  read-weeks u there = ap (λ q. weeksIn q u) read-is ∙ place-at (weeksAt (poolRecords bytes)) (length (poolRecords bytes)) u (omega (arith, read-records))
 
   -- in its graph u has an arc to v exactly where document 01 says that u gives to v
   pub read-arcs : (u v : ℕ) → T (graphOf p .arc u v) ↔ GivesTo bytes u v

@@ -8,7 +8,7 @@ use Rattle.pool.specs.declared.value.Pool.{Pool}
 use Rattle.kep.specs.Lists.{keep}
 use Rattle.kep.specs.Sets.{has}
 use Rattle.pool.specs.Refusals.{Outcome, accepted, refused, tested}
-use Rattle.pool.specs.Value.{emptyPool}
+use Rattle.pool.specs.Value.{emptyPool, mostWeeks}
 use Rattle.reading.specs.Fields.{recordWidth, mostRecords, poolRecords, tellsHouse, tellsMember, classOf, gradeOf, leastOf, takenOf, weeksOf, machineOf}
 use Rattle.reading.specs.computed.Pool.{poolOf}
 
@@ -28,7 +28,7 @@ takesNothing r = eqb (leastOf r) 0 && eqb (takenOf r) 0
 
 -- weeks 0 to 999, machine numbers from 1 on
 abbrev pub weeksAndMachineFit : List ℕ → Bool
-weeksAndMachineFit r = leb (weeksOf r) 999 && not (eqb (machineOf r) 0)
+weeksAndMachineFit r = leb (weeksOf r) mostWeeks && not (eqb (machineOf r) 0)
 
 -- no record among them is such
 abbrev pub noneOf : (List ℕ → Bool) → List (List ℕ) → Bool

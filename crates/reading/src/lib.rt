@@ -3,6 +3,7 @@ mod fields;
 mod pool_bytes;
 mod records;
 mod takers;
+mod waited;
 
 pub use fields::PoolRecord;
 pub use pool_bytes::PoolAnswer;

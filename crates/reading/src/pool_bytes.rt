@@ -3,6 +3,7 @@ use crate::fields::PoolRecord;
 use crate::records::Scan;
 use crate::records::scan_records;
 use crate::takers::takers;
+use crate::waited::waited;
 use pool::Cause;
 use pool::Pool;
 use pool::Refusal;
@@ -35,12 +36,14 @@ pub fn read_pool(bytes: &[u8]) -> PoolAnswer
     match scan {
         Scan::Houses(houses) => {
             let gives = takers(bytes);
+            let weeks = waited(bytes);
             PoolAnswer {
                 verdict: Verdict::Accepted,
                 pool: Pool {
                     size: places as u8,
                     altruists: houses,
                     gives,
+                    weeks,
                 },
             }
         }

@@ -4,6 +4,7 @@ use crate::fields::machine;
 use crate::fields::taken;
 use crate::fields::weeks;
 use pool::Cause;
+use pool::Pool;
 ghost use mathlib.Core.Path.{_≡_};
 ghost use mathlib.Core.Bool.{not};
 ghost use mathlib.Core.List.{List, [], _∷_};
@@ -138,5 +139,5 @@ fn weeks_and_machine_fit(bytes: &[u8]) -> bool
     requires { ⌜ length (now bytes) ≡ recordWidth ⌝ }
     ensures { λ r. ⌜ r ≡ weeksAndMachineFit (now (bytes .entry)) ⌝ }
 {
-    (weeks(bytes) <= 999) & (machine(bytes) != 0)
+    (weeks(bytes) <= Pool::MOST_WEEKS) & (machine(bytes) != 0)
 }

@@ -3,17 +3,15 @@ use crate::fields::PoolRecord;
 use crate::fields::taken;
 use sets::VertexSet;
 ghost use mathlib.Core.Path.{_≡_};
-ghost use mathlib.Core.List.{_++_};
-ghost use Prim.Native.Nat.{_-_, _/_, _≤_, _<_};
-ghost use lib.ListN.{length, replicate};
-ghost use Rattle.kep.specs.Lists.{tabulate};
+ghost use Prim.Native.Nat.{_/_, _≤_, _<_};
+ghost use lib.ListN.{length};
 ghost use Rattle.reading.specs.Fields.{recordWidth, mostRecords, poolRecords};
-ghost use Rattle.reading.specs.computed.Pool.{recordGives, takersOf};
+ghost use Rattle.reading.specs.computed.Pool.{recordGives, takersOf, forPlaces};
 
 // The sets of all places; nothing from places that are not there.
 pub(crate) fn takers(bytes: &[u8]) -> [u16; PoolRecord::MOST]
     requires { ⌜ length (now bytes) / recordWidth ≤ mostRecords ⌝ }
-    ensures { λ r. ⌜ r ≡ tabulate (takersOf (poolRecords (now (bytes .entry)))) (length (now (bytes .entry)) / recordWidth) ++ replicate (mostRecords - length (now (bytes .entry)) / recordWidth) 0 ⌝ }
+    ensures { λ r. ⌜ r ≡ forPlaces (takersOf (poolRecords (now (bytes .entry)))) (length (now (bytes .entry)) / recordWidth) ⌝ }
 {
     let places = bytes.len() / PoolRecord::WIDTH;
     let mut gives = [0u16; PoolRecord::MOST];

@@ -84,7 +84,7 @@ fn compose_cleared(value: Pool, limits: Limits, text: &mut [u8]) -> usize
     ensures { λ r. ⌜ Adds 1024 (now (text .entry)) (now (text .exit)) 0 r (clearedText value limits) ⌝ }
 {
     let mut exchanges = [0u16; 16384];
-    let mut best = [0u8; 16384];
+    let mut best = [0u32; 16384];
     let mut plan = [0u8; 224];
     let cleared = clear_value(value, limits, &mut exchanges, &mut best, &mut plan);
     match cleared {

@@ -1,66 +1,88 @@
--- What the code that fills the best table works out: members counted as ones, what a set offers, sums that fit.
-use mathlib.Core.Bool.{Bool, true, false}
+-- What the code that fills the best table works out: the worths of sets, what a set offers, sums that fit.
+use mathlib.Core.Bool.{Bool}
 use mathlib.Core.List.{List, _++_}
-use mathlib.Core.Logic.{_↔_}
-use mathlib.Core.Path.{_≡_, ap, _∙_, fun-ext}
+use mathlib.Core.Path.{_≡_, refl, sym, ap, ap₂, fun-ext, _∙_}
 use Prim.Native.Nat.{ℕ, _+_, _-_, _^_, _≤_, _<_}
-use native.Mathlib.Nat.{le-trans, mul-one}
+use native.Mathlib.Nat.{mul-le-mul-right}
 use native.Mathlib.Omega.{arith}
 use lib.Bits.{bitAnd}
-use lib.Count.{ones, ones-le}
-use lib.Dec.{T, leb, ltb, ltb→lt}
-use lib.ListN.{getD}
-use mir.Syntax.{w8, w64}
+use lib.Count.{trailingZeros}
+use lib.ListN.{length, getD, set, drop}
+use lib.Seq.{drop-set-lt, drop-at}
+use lib.Dec.{T}
+use lib.Pow.{pow-mono, pow-pos}
+use mir.Syntax.{w32, w64}
 use mir.Val.{Fits}
 use borrow.Author.Tests.{eq-eqb, ne-eqb}
 use Rattle.pool.specs.declared.value.Pool.{Pool}
-use Rattle.kep.specs.Sets.{has, worthOf, counted, setWhere}
+use Rattle.kep.specs.Lists.{tabulate, writtenTo}
+use Rattle.kep.specs.Sets.{counted}
+use Rattle.kep.specs.inner.Lowest.{lowest}
 use Rattle.kep.specs.Graph.{isMember}
-use Rattle.pool.specs.Value.{graphOf}
-use Rattle.kep.specs.Lists.{tabulate}
+use Rattle.kep.specs.Table.{perMember}
+use Rattle.pool.specs.Value.{graphOf, weeksIn, poolFits}
+use Rattle.pool.proofs.ValueLaws.{fits-size, fits-weeks}
 use Rattle.kep.specs.computed.Table.{best}
-use Rattle.tables.specs.Calls.{marked, membersIn}
-use Rattle.kep.specs.inner.BestFilling.{heldIn, offer, bestOffered}
-use Rattle.kep.proofs.Tests.{and-right}
-use Rattle.kep.proofs.Worth.{worth-le, worth-and}
-use Rattle.kep.proofs.Operations.{where-set}
-use Rattle.kep.proofs.SetLoops.{where-reach}
+use Rattle.kep.specs.inner.BestFilling.{Worths, worthBy, offer, bestOffered}
+use Rattle.tables.specs.Calls.{marked, worthIn, setWorth}
+use Rattle.kep.proofs.LowestBit.{lowest-le, lowest-out, trailing-is}
+use Rattle.kep.proofs.SetLaws.{has-below, lowest-is}
+use Rattle.kep.proofs.Tables.{length-tabulate, getD-tabulate, getD-whole, tabulate-below, tabulate-store}
+use Rattle.kep.proofs.Worth.{counted-le, worth-none, worth-same, worth-le, worth-without}
 use Rattle.kep.proofs.BestTable.{best-worth}
 use Rattle.kep.proofs.BestFilling.{offered-best}
 
--- ---- members
+-- ---- the worths of sets
 
--- the worth of sets is the number of ones, where the vertices worth 1 are those of `members`
-held-worth : (k members : ℕ) (p : ℕ → Bool) → members < 2 ^ k → ((x : ℕ) → x < k → T (p x) ↔ T (has members x)) → worthOf (λ x. counted (p x) 1) k ≡ heldIn members
-held-worth k members p b same = fun-ext (λ s. worth-and p k s ∙ ap (λ (x : ℕ). ones (bitAnd s x)) (where-set k members p b same))
+module _ {size : ℕ} {each : List ℕ} (worths : Worths size each) where
+  -- the first store: the empty set is worth nothing
+  pub worth-first : (table : List ℕ) → 0 < length table → set table 0 0 ≡ writtenTo (worthBy each size) 1 (set table 0 0)
+  unfolding tabulate
+  worth-first table l =
+      tabulate-store (worthBy each size) 0 table l refl (sym (worth-none (λ x. getD each x 0) size))
+      ∙ ap (λ (xs : List ℕ). tabulate (worthBy each size) 1 ++ xs) (sym (drop-set-lt 1 table 0 0 (omega arith)))
 
--- of members below k an entry counts at most k
-pub best-held : (k members : ℕ) → members < 2 ^ k → (m : ℕ → Bool) (s : ℕ) → best (heldIn members) m s ≤ k
-best-held k members b m s = rw (← held-worth k members (has members) b (λ x _. (λ t. t, λ t. t))) (le-trans (best-worth worth m k s) few)
-  where
-    worth : ℕ → ℕ
-    worth x = counted (has members x) 1
+  -- what a set is worth fits 32 bits, and so does the best inside it
+  pub worth-fits : (s : ℕ) → worthBy each size s < 2 ^ 32
+  worth-fits s =
+      omega (arith, worth-le (λ x. getD each x 0) size s (2 ^ 28 - 1) (λ x l. omega (arith, worths .small x l)), mul-le-mul-right (2 ^ 28 - 1) (worths .few))
 
-    one : (b : Bool) → counted b 1 ≤ 1
-    one true = omega arith
-    one false = omega arith
+  pub best-fits : (m : ℕ → Bool) (s : ℕ) → best (worthBy each size) m s < 2 ^ 32
+  best-fits m s = omega (arith, worth-fits s, best-worth (λ x. getD each x 0) m size s)
 
-    few : worthOf worth k s ≤ k
-    few = rw mul-one at (worth-le worth k s 1 (λ x _. one (has members x)))
+  module _ {s : ℕ} (some : 0 < s) (inside : s < 2 ^ size) where
+    wide : s < 2 ^ 64
+    wide = let all : 2 ^ size ≤ 2 ^ 14 = pow-mono (worths .few) in omega arith
 
--- so by what each set offers an entry fits a byte
-pub small-entries : (members entries : ℕ) (m : ℕ → Bool) (left : List ℕ) {offers : List ℕ} → members < 2 ^ 64
-    → offers ≡ tabulate (offer (heldIn members) m) entries ++ left → (s : ℕ) → s < entries → bestOffered offers s < 256
-small-entries members entries m left b e s l = omega (arith, offered-best (heldIn members) m entries left e s l, best-held 64 members b m s)
+    -- its lowest vertex, as code finds it
+    lowest-lt : lowest s < size
+    lowest-lt = has-below size s (lowest s) inside (lowest-is s some .isIn)
 
--- the members of a pool, as the set of them
-pub members-held : (p : Pool) → p .size ≤ 16 → membersIn p ≡ heldIn (setWhere 16 (isMember (graphOf p)))
-members-held p l =
-    fun-ext
-    (λ s.
-    worth-and (isMember (graphOf p)) (p .size) s
-    ∙ ap (λ (x : ℕ). ones (bitAnd s x))
-    (where-reach (p .size) 16 (isMember (graphOf p)) (λ u t. let h = ltb→lt u (p .size) (and-right (leb (p .altruists) u) (ltb u (p .size)) t) in (h, omega arith))))
+    pub trailing-lt : trailingZeros 64 s < size
+    trailing-lt = rw (trailing-is s some 64 wide) lowest-lt
+
+    -- its worth, by that of the set without its lowest vertex
+    pub worth-next : (table : List ℕ) {filled : List ℕ} → filled ≡ writtenTo (worthBy each size) s table
+        → getD filled (bitAnd (s - 1) s) 0 + getD each (trailingZeros 64 s) 0 ≡ worthBy each size s
+    worth-next table {filled} e =
+        let low = lowest s in
+        let seen : getD filled (s - 2 ^ low) 0 ≡ worthBy each size (s - 2 ^ low) =
+        ap (λ (xs : List ℕ). getD xs (s - 2 ^ low) 0) e ∙ getD-tabulate (worthBy each size) s (s - 2 ^ low) (drop s table) (omega (arith, lowest-le s some, pow-pos low)) in
+        rw (lowest-out s some, trailing-is s some 64 wide)
+        (ap (λ (x : ℕ). x + getD each low 0) seen ∙ sym (worth-without (λ x. getD each x 0) size s low lowest-lt (lowest-is s some .isIn)))
+
+-- the worths of a pool's vertices
+module _ (p : Pool) (fits : T (poolFits p)) where
+  pub worths-are : Worths (p .size) (tabulate (worthIn p) 14)
+  worths-are = record {
+    few = fits-size p fits;
+    told = omega (arith, fits-size p fits, length-tabulate (worthIn p) 14);
+    small = λ x l. rw (getD-whole (worthIn p) 14 x (omega (arith, fits-size p fits))) (omega (arith, counted-le (isMember (graphOf p) x) (perMember + weeksIn p x), fits-weeks p fits x l));
+  }
+
+  -- and of sets of them
+  pub worth-is : worthBy (tabulate (worthIn p) 14) (p .size) ≡ setWorth p
+  worth-is = fun-ext (λ s. worth-same (λ x. getD (tabulate (worthIn p) 14) x 0) (worthIn p) (p .size) s (λ x l. getD-whole (worthIn p) 14 x (omega (arith, fits-size p fits))))
 
 -- ---- what a set offers, by its entry
 
@@ -73,12 +95,26 @@ module _ (v : ℕ → ℕ) (exchanges : List ℕ) (t : ℕ) {x : ℕ} where
   unfolding offer
   offer-worth n e = rw (ne-eqb (getD exchanges t 0) 0 n) e
 
+-- ---- the table filled: worths, what is offered by them, and the entries written over them
+
+module _ (v : ℕ → ℕ) (m : ℕ → Bool) {k entries : ℕ} (are : entries ≡ k) (table behind : List ℕ) {worths offers : List ℕ}
+    (written : worths ≡ writtenTo v k table)
+    (offered : offers ≡ writtenTo (offer (λ t. getD worths t 0) m) entries behind)
+  where
+    pub offers-best : (s : ℕ) → s < k → bestOffered offers s ≡ best v m s
+    unfolding offer
+    offers-best =
+        let worth-at : (t : ℕ) → t < k → getD worths t 0 ≡ v t = λ t l. ap (λ (xs : List ℕ). getD xs t 0) written ∙ getD-tabulate v k t (drop k table) l in
+        offered-best v m k (drop k behind)
+        (rw are at offered ∙ ap (λ (xs : List ℕ). xs ++ drop k behind) (tabulate-below (offer (λ t. getD worths t 0) m) (offer v m) k (λ t l. ap (λ (x : ℕ). counted (m t) x) (worth-at t l))))
+
+    pub entries-written : {left : List ℕ} → left ≡ writtenTo (bestOffered offers) entries worths → left ≡ writtenTo (best v m) k table
+    entries-written e =
+        rw are at e
+        ∙ ap₂ (λ (xs ys : List ℕ). xs ++ ys) (tabulate-below (bestOffered offers) (best v m) k offers-best) (ap (drop k) written ∙ drop-at (tabulate v k) (drop k table) k (length-tabulate v k))
+
 -- ---- widths
 
--- the number of ones in a word fits a byte
-pub ones-fit : {x : ℕ} → Fits w64 x → Fits w8 (ones x)
-ones-fit {x} h = omega (arith, ones-le 64 x (h .fits))
-
--- a sum of two bytes fits a word
-pub sum-fits : {a b : ℕ} → Fits w8 a → Fits w8 b → Fits w64 (a + b)
+-- a sum of two entries fits a word
+pub sum-fits : {a b : ℕ} → Fits w32 a → Fits w32 b → Fits w64 (a + b)
 sum-fits h k = omega arith

@@ -8,10 +8,10 @@ use Rattle.pool.specs.declared.value.Pool.{Pool}
 use Rattle.kep.specs.Lists.{writtenTo}
 use Rattle.kep.specs.Sets.{worthOf}
 use Rattle.pool.specs.Refusals.{numberOf, Outcome, accepted, refused, tested, leftBy}
-use Rattle.pool.specs.Value.{graphOf, poolFits}
+use Rattle.pool.specs.Value.{graphOf, weeksIn, poolFits}
 use Rattle.tables.specs.declared.filled.Filled.{Filled}
 use Rattle.tables.specs.declared.filled.Filled.the-variants as filled
-use Rattle.kep.specs.Table.{memberWorth}
+use Rattle.kep.specs.Table.{memberWorth, memberWeeks}
 use Rattle.kep.specs.computed.Table.{best}
 
 -- what the answer of a filling call stands for
@@ -19,19 +19,23 @@ abbrev pub filledOutcome : Filled → Outcome ℕ
 filledOutcome (filled.Entries k) = accepted k
 filledOutcome (filled.Refused r) = refused (numberOf (r .cause)) (r .at)
 
--- ---- the best table: for every set the most members that disjoint marked sets inside it can hold
+-- ---- the best table: for every set the greatest members × 65,536 + weeks that disjoint marked sets inside it can hold
 
 -- as marked is taken every set with a nonzero entry in the lent exchange table, whatever that holds
 abbrev pub marked : List ℕ → ℕ → Bool
 marked exchanges s = not (eqb (getD exchanges s 0) 0)
 
--- what a vertex of the pool counts: a member 1, an altruist nothing
+-- what a vertex of the pool is worth: a member 65,536 and the weeks that it has waited, an altruist nothing
 abbrev pub worthIn : Pool → ℕ → ℕ
-worthIn p v = memberWorth (graphOf p) v
+worthIn p v = memberWeeks (graphOf p) (weeksIn p) v
+
+-- what a set is worth: "members × 65,536 + weeks"
+abbrev pub setWorth : Pool → ℕ → ℕ
+setWorth p s = worthOf (worthIn p) (p .size) s
 
 -- the members in a set
 abbrev pub membersIn : Pool → ℕ → ℕ
-membersIn p s = worthOf (worthIn p) (p .size) s
+membersIn p s = worthOf (memberWorth (graphOf p)) (p .size) s
 
 -- 6: a pool value that does not fit; 8, 9: a table under 2 to the n entries
 abbrev pub bestTests : Pool → List ℕ → List ℕ → List (ℕ × Bool)
@@ -44,4 +48,4 @@ bestOutcome p exchanges table = tested (bestTests p exchanges table) 0 (accepted
 -- every set's entry
 unfoldable pub bestLeft : Pool → List ℕ → List ℕ → List ℕ
 bestLeft p exchanges table =
-    leftBy (bestOutcome p exchanges table) (λ _. writtenTo (best (membersIn p) (marked exchanges)) (2 ^ p .size) table) table
+    leftBy (bestOutcome p exchanges table) (λ _. writtenTo (best (setWorth p) (marked exchanges)) (2 ^ p .size) table) table

@@ -8,7 +8,7 @@ use crate::refusal::{refuse, Refusal};
 
 /// What clearing keeps beside the tables, lent so that no call has to make it.
 pub struct Workspace {
-    worth: Vec<u8>,
+    worth: Vec<u32>,
     scratch: Scratch,
 }
 
@@ -28,7 +28,7 @@ pub fn clear(
     lc: u8,
     lp: u8,
     exchanges: &mut [u16],
-    best: &mut [u8],
+    best: &mut [u32],
     plan: &mut [u8],
     workspace: &mut Workspace,
 ) -> Result<(usize, usize), Refusal> {

@@ -1,7 +1,7 @@
 //! The first of the best plans, chosen exchange by exchange over the filled tables.
 
 use super::pool::givers_of;
-use super::tables::MARK;
+use super::tables::{next_part, MARK};
 use crate::layout::MOST_PLACES;
 use crate::pools::PoolValue;
 
@@ -14,13 +14,13 @@ const NO_PLACE: usize = 255;
 pub struct Filled<'a> {
     pool: &'a PoolValue,
     givers: [u16; MOST_PLACES],
-    worth: &'a [u8],
-    best: &'a [u8],
+    worth: &'a [u32],
+    best: &'a [u32],
 }
 
 impl<'a> Filled<'a> {
     /// The tables must have an entry for each set of the pool's places.
-    pub fn new(pool: &'a PoolValue, worth: &'a [u8], best: &'a [u8]) -> Self {
+    pub fn new(pool: &'a PoolValue, worth: &'a [u32], best: &'a [u32]) -> Self {
         let entries = 1 << pool.places;
         Filled {
             pool,
@@ -76,7 +76,7 @@ pub fn write_plan(filled: &Filled, scratch: &mut Scratch, plan: &mut [u8]) -> (u
 }
 
 /// Finds the sets that make the lowest free place an exchange which keeps the most
-/// served; returns the union of them.
+/// members and weeks served; returns the union of them.
 fn find_completing(filled: &Filled, free: usize, completing: &mut Vec<usize>) -> usize {
     let rest = free & (free - 1);
     let first = free ^ rest;
@@ -94,11 +94,6 @@ fn find_completing(filled: &Filled, free: usize, completing: &mut Vec<usize>) ->
             return union;
         }
     }
-}
-
-/// The next part of a set, rising; the empty part after the set itself.
-fn next_part(t: usize, set: usize) -> usize {
-    t.wrapping_sub(set) & set
 }
 
 /// Fills `begins` for the parts of the union that are not larger than the largest

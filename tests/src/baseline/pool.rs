@@ -17,13 +17,16 @@ pub fn read_pool(bytes: &[u8]) -> Result<PoolValue, Refusal> {
         houses += test_record(record, at, houses)?;
     }
     let mut gives = [0; MOST_PLACES];
-    for (set, giver) in gives.iter_mut().zip(bytes.chunks_exact(RECORD)) {
-        *set = takers_of(giver, bytes, houses);
+    let mut weeks = [0; MOST_PLACES];
+    for (place, record) in bytes.chunks_exact(RECORD).enumerate() {
+        gives[place] = takers_of(record, bytes, houses);
+        weeks[place] = two_bytes(record, WEEKS);
     }
     Ok(PoolValue {
         places: places as u8,
         houses: houses as u8,
         gives,
+        weeks,
     })
 }
 
@@ -77,9 +80,15 @@ pub fn test_value(pool: &PoolValue) -> Result<(), Refusal> {
         return refuse(6, 0);
     }
     let members = (1u16 << places) - (1 << pool.houses);
-    let (there, beyond) = pool.gives.split_at(places);
-    if there.iter().any(|set| set & !members != 0) || beyond.iter().any(|&set| set != 0) {
-        return refuse(6, 0);
+    for place in 0..MOST_PLACES {
+        let (takers, greatest) = if place < places {
+            (members, GREATEST_WEEKS)
+        } else {
+            (0, 0)
+        };
+        if pool.gives[place] & !takers != 0 || pool.weeks[place] > greatest {
+            return refuse(6, 0);
+        }
     }
     Ok(())
 }

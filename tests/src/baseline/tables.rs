@@ -1,14 +1,16 @@
 //! Filling the exchange table and the best table. With the bounds of each index tested
-//! the exchange table takes 1.13 times as long, the best table 1.33 times.
+//! the exchange table takes 1.13 times as long, the best table 1.01 to 1.06 times.
 
 use super::pool::{givers_of, test_limits, test_value};
 use crate::layout::MOST_PLACES;
 use crate::pools::PoolValue;
 use crate::refusal::{refuse, Refusal};
 
-/// A marked set is worth this and its members, any other 0: so a sum of a worth and
-/// a best entry counts exactly if it is not below this.
-pub const MARK: u8 = 64;
+/// What a member is worth beside its weeks, whose sum is always below this.
+const MEMBER_WORTH: u32 = 65_536;
+/// A marked set is worth this, its members and their weeks, any other 0: so a sum of a
+/// worth and a best entry counts exactly if it is not below this.
+pub const MARK: u32 = 1 << 31;
 
 pub fn fill_exchanges(
     pool: &PoolValue,
@@ -30,8 +32,8 @@ pub fn fill_exchanges(
 pub fn fill_best(
     pool: &PoolValue,
     exchanges: &[u16],
-    worth: &mut [u8],
-    best: &mut [u8],
+    worth: &mut [u32],
+    best: &mut [u32],
 ) -> Result<usize, Refusal> {
     test_value(pool)?;
     let entries = entries_needed(pool, exchanges.len(), 8)?;
@@ -96,57 +98,74 @@ fn keep_exchanges(pool: &PoolValue, givers: &[u16; MOST_PLACES], table: &mut [u1
     }
 }
 
-fn fill_worth(pool: &PoolValue, exchanges: &[u16], worth: &mut [u8]) {
-    for (set, (entry, &ends)) in worth.iter_mut().zip(exchanges).enumerate() {
-        let members = (set >> pool.houses).count_ones() as u8;
-        *entry = if ends != 0 { MARK + members } else { 0 };
+/// Each place doubles the sets: those below it come once more with it. Then those that are
+/// not marked become 0.
+fn fill_worth(pool: &PoolValue, exchanges: &[u16], worth: &mut [u32]) {
+    worth[0] = MARK;
+    for place in 0..usize::from(pool.places) {
+        let house = place < usize::from(pool.houses);
+        let more = if house {
+            0
+        } else {
+            MEMBER_WORTH + u32::from(pool.weeks[place])
+        };
+        let (without, with) = worth[..2 << place].split_at_mut(1 << place);
+        for (entry, &below) in with.iter_mut().zip(&*without) {
+            *entry = below + more;
+        }
+    }
+    for (entry, &ends) in worth.iter_mut().zip(exchanges) {
+        *entry = if ends != 0 { *entry } else { 0 };
     }
     worth[0] = 0;
 }
 
 /// The table is cleared first because the empty part, worth 0, reads the very entry
 /// that is to be written.
-fn fill_greatest(worth: &[u8], best: &mut [u8]) {
+fn fill_greatest(worth: &[u32], best: &mut [u32]) {
     best.fill(0);
     for s in 1..best.len() {
         let greatest = if s.is_power_of_two() {
-            worth[s].into()
+            worth[s]
         } else {
             greatest_of_parts(worth, best, s)
         };
-        best[s] = greatest.saturating_sub(MARK.into()) as u8;
+        best[s] = greatest.saturating_sub(MARK);
     }
 }
 
 /// Parts go by fours, with and without the two lowest places, so that no load waits
-/// for another. Not inlined, so that the loop has all registers.
+/// for another. Not inlined, and with two greatest sums kept and not four, so that the
+/// loop has all registers.
 #[inline(never)]
-fn greatest_of_parts(worth: &[u8], best: &[u8], s: usize) -> u32 {
+fn greatest_of_parts(worth: &[u32], best: &[u32], s: usize) -> u32 {
     let upper = s & (s - 1);
     let rest = upper & (upper - 1);
     let (a, b) = (s ^ upper, upper ^ rest);
     let (worth_a, worth_b, worth_ab) = (&worth[a..], &worth[b..], &worth[a + b..]);
     let (best_a, best_b, best_ab) = (&best[a..], &best[b..], &best[a + b..]);
-    let mut greatest = [0; 4];
-    let mut t = rest;
+    let mut greatest = [0; 2];
+    let mut t = 0;
     loop {
         let u = rest ^ t;
         // SAFETY: t and u are parts of s without a and b, so with them they are parts
         // of s, and s is below the length of both tables.
         unsafe {
-            greatest[0] = greatest[0].max(sum(worth_ab.get_unchecked(t), best.get_unchecked(u)));
-            greatest[1] = greatest[1].max(sum(worth_b.get_unchecked(t), best_a.get_unchecked(u)));
-            greatest[2] = greatest[2].max(sum(worth_a.get_unchecked(t), best_b.get_unchecked(u)));
-            greatest[3] = greatest[3].max(sum(worth.get_unchecked(t), best_ab.get_unchecked(u)));
+            let with_ab = worth_ab.get_unchecked(t) + best.get_unchecked(u);
+            let with_b = worth_b.get_unchecked(t) + best_a.get_unchecked(u);
+            greatest[0] = greatest[0].max(with_ab.max(with_b));
+            let with_a = worth_a.get_unchecked(t) + best_b.get_unchecked(u);
+            let without = worth.get_unchecked(t) + best_ab.get_unchecked(u);
+            greatest[1] = greatest[1].max(with_a.max(without));
         }
+        t = next_part(t, rest);
         if t == 0 {
-            let [w, x, y, z] = greatest;
-            return w.max(x).max(y.max(z));
+            return greatest[0].max(greatest[1]);
         }
-        t = t.wrapping_sub(1) & rest;
     }
 }
 
-fn sum(worth: &u8, best: &u8) -> u32 {
-    u32::from(*worth) + u32::from(*best)
+/// The next part of a set, rising; the empty part after the set itself.
+pub fn next_part(t: usize, set: usize) -> usize {
+    t.wrapping_sub(set) & set
 }

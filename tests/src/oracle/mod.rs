@@ -3,6 +3,7 @@
 pub mod best;
 pub mod check;
 pub mod exchange;
+pub mod held;
 pub mod plan;
 pub mod pool;
 pub mod set;

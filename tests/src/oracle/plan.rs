@@ -83,16 +83,40 @@ pub fn record_form(pool: &Pool, plan: &Plan) -> Vec<u8> {
         .collect()
 }
 
-/// "Among legal plans that serve most, the answer is the one whose bytes come first."
+/// "Weeks over the served": of the members in the plan, for "a house's weeks count nowhere".
+pub fn weeks_served(pool: &Pool, plan: &Plan) -> usize {
+    let places = plan.iter().flatten();
+    let members = places.filter(|&&place| pool.is_member(place));
+    members.map(|&member| usize::from(pool.weeks[member])).sum()
+}
+
+pub fn plans_serving_most(pool: &Pool, limits: Limits) -> Vec<Plan> {
+    of_greatest(legal_plans(pool, limits), |plan| served(pool, plan))
+}
+
+pub fn plans_of_most_weeks(pool: &Pool, plans: Vec<Plan>) -> Vec<Plan> {
+    of_greatest(plans, |plan| weeks_served(pool, plan))
+}
+
+/// The plans for which this number is greatest.
+fn of_greatest(mut plans: Vec<Plan>, number: impl Fn(&Plan) -> usize) -> Vec<Plan> {
+    let greatest = plans.iter().map(&number).max();
+    plans.retain(|plan| Some(number(plan)) == greatest);
+    plans
+}
+
+/// "The one whose bytes come first: at the first differing byte, the smaller."
+pub fn first_by_bytes(pool: &Pool, plans: Vec<Plan>) -> Plan {
+    let first = plans.into_iter().min_by_key(|plan| record_form(pool, plan));
+    first.unwrap_or_default()
+}
+
+/// "Among plans serving most members, the greatest sum of weeks over the served now comes
+/// first, then the records' bytes."
 fn answer(pool: &Pool, limits: Limits) -> Plan {
-    let plans = legal_plans(pool, limits);
-    let most = plans.iter().map(|plan| served(pool, plan)).max();
-    let serving_most = plans
-        .into_iter()
-        .filter(|plan| Some(served(pool, plan)) == most);
-    serving_most
-        .min_by_key(|plan| record_form(pool, plan))
-        .unwrap_or_default()
+    let serving_most = plans_serving_most(pool, limits);
+    let of_most_weeks = plans_of_most_weeks(pool, serving_most);
+    first_by_bytes(pool, of_most_weeks)
 }
 
 /// What an accepted clearing returns and leaves at the front of each buffer.
@@ -101,12 +125,12 @@ pub struct Cleared {
     pub served: usize,
     pub records: usize,
     pub exchanges: Vec<u16>,
-    pub best: Vec<u8>,
+    pub best: Vec<u32>,
     pub plan: Vec<u8>,
 }
 
 impl Cleared {
-    pub fn new(pool: &Pool, plan: &Plan, exchanges: Vec<u16>, best: Vec<u8>) -> Self {
+    pub fn new(pool: &Pool, plan: &Plan, exchanges: Vec<u16>, best: Vec<u32>) -> Self {
         Cleared {
             served: served(pool, plan),
             records: plan.len(),

@@ -5,12 +5,14 @@ use crate::pools::PoolValue;
 use crate::refusal::{refuse, Refusal};
 
 /// "A pool as a value is n, the number of houses (they are the lowest places)
-/// and, for each place, the set of places it gives to", here as rising lists.
+/// and, for each place, the set of places it gives to", here as rising lists; it "now
+/// also holds each place's weeks", those of houses too.
 #[derive(Clone, Debug, PartialEq, Eq)]
 pub struct Pool {
     pub places: usize,
     pub houses: usize,
     pub gives: Vec<Vec<usize>>,
+    pub weeks: Vec<u16>,
 }
 
 impl Pool {
@@ -31,38 +33,66 @@ impl Pool {
         places.iter().filter(member).count()
     }
 
-    /// The lists as the C interface tells them.
+    /// The lists as the C interface tells them; weeks are 0 for a place that isn't there.
     pub fn value(&self) -> PoolValue {
         let mut gives = [0; MOST_PLACES];
         for (set, takers) in gives.iter_mut().zip(&self.gives) {
             *set = set_number(takers) as u16;
         }
+        let mut weeks = [0; MOST_PLACES];
+        weeks[..self.places].copy_from_slice(&self.weeks);
         PoolValue {
             places: self.places as u8,
             houses: self.houses as u8,
             gives,
+            weeks,
         }
     }
 
-    /// A "pool passed as a value", or cause 6: "over 14 places, more houses than
-    /// places, arc into a house or from or to a place that isn't there".
+    /// A "pool passed as a value", or cause 6.
     pub fn of_value(value: &PoolValue) -> Result<Pool, Refusal> {
-        let places = usize::from(value.places);
-        let houses = usize::from(value.houses);
-        let mut gives = value.gives.map(|set| places_of(set.into())).to_vec();
-        let there = |place: usize| place < places;
-        let astray = |giver: usize, taker: usize| !there(giver) || !there(taker) || taker < houses;
-        let has_astray = |giver: usize| gives[giver].iter().any(|&taker| astray(giver, taker));
-        if places > MOST_PLACES || houses > places || (0..MOST_PLACES).any(has_astray) {
+        if has_wrong_size(value) || has_arc_astray(value) || has_wrong_weeks(value) {
             return refuse(6, 0);
         }
-        gives.truncate(places);
+        let places = usize::from(value.places);
+        let there = &value.gives[..places];
         Ok(Pool {
             places,
-            houses,
-            gives,
+            houses: value.houses.into(),
+            gives: there.iter().map(|&set| places_of(set.into())).collect(),
+            weeks: value.weeks[..places].to_vec(),
         })
     }
+}
+
+/// "Over 14 places, more houses than places."
+fn has_wrong_size(value: &PoolValue) -> bool {
+    usize::from(value.places) > MOST_PLACES || value.houses > value.places
+}
+
+/// "Arc into a house or from or to a place that isn't there."
+fn has_arc_astray(value: &PoolValue) -> bool {
+    let into_house = |taker: usize| taker < usize::from(value.houses);
+    let astray = |giver: usize, taker: usize| {
+        !is_there(value, giver) || !is_there(value, taker) || into_house(taker)
+    };
+    let takers = |giver: usize| places_of(value.gives[giver].into());
+    let has_astray = |giver: usize| takers(giver).iter().any(|&taker| astray(giver, taker));
+    (0..MOST_PLACES).any(has_astray)
+}
+
+/// "Weeks above 999, or other than 0 for a place that isn't there", of houses and members
+/// alike.
+fn has_wrong_weeks(value: &PoolValue) -> bool {
+    let wrong = |place: usize| {
+        let weeks = value.weeks[place];
+        weeks > GREATEST_WEEKS || !is_there(value, place) && weeks != 0
+    };
+    (0..MOST_PLACES).any(wrong)
+}
+
+fn is_there(value: &PoolValue, place: usize) -> bool {
+    place < usize::from(value.places)
 }
 
 /// "A set of places is a number: the sum of 2 to the power i over its places i."
@@ -194,6 +224,7 @@ fn value_of(records: &[Record]) -> Pool {
         places: records.len(),
         houses: records.iter().filter(|record| record.is_house()).count(),
         gives: records.iter().map(takers).collect(),
+        weeks: records.iter().map(Record::weeks).collect(),
     }
 }
 

@@ -13,7 +13,7 @@ use Rattle.pool.specs.Refusals.{Outcome, accepted, andThen, leftBy}
 use Rattle.pool.specs.Value.{graphOf}
 use Rattle.tables.specs.Calls.{worthIn}
 
--- the plan that it answers with: of the legal plans that serve most the one whose records come first
+-- the plan that it answers with: of the legal plans that are worth most, members × 65,536 + weeks, the one whose records come first
 abbrev pub planOf : Pool → Limits → List (List ℕ)
 planOf p l = answer (worthIn p) (graphOf p) (l .cycle) (l .chain)
 

@@ -7,15 +7,15 @@ use Prim.Native.Nat.{ℕ, _+_, _-_, _^_, _≤_, _<_}
 use lib.Bits.{bitAnd}
 use lib.Dec.{T, eqb}
 use lib.ListN.{length, getD, drop, set}
-use Rattle.kep.specs.Sets.{has, Part, counted, setOf, sizeBelow, withVertex, withoutVertex}
+use Rattle.kep.specs.Sets.{has, Part, counted, setOf, withVertex, withoutVertex}
 use Rattle.kep.specs.Exchange.{lastOf}
 use Rattle.kep.specs.inner.Paths.{Field, Completes, Completable, Leftmost}
 use Rattle.clearing.specs.declared.seeking.Step.{Step}
 
--- a path on the set may end at the vertices of the exchange table, where with the set taken the best of the free vertices can be reached
+-- a path on the set may end at the vertices of the exchange table, where the best of the set and of what it leaves come to that of the free vertices
 unfoldable pub endsOf : Step → List ℕ → List ℕ → ℕ → ℕ
 endsOf s exchanges best path =
-    counted (eqb (sizeBelow 16 (bitAnd path (s .members .0)) + getD best (s .free .0 - path) 0) (getD best (s .free .0) 0)) (getD exchanges path 0)
+    counted (eqb (getD best path 0 + getD best (s .free .0 - path) 0) (getD best (s .free .0) 0)) (getD exchanges path 0)
 
 abbrev pub fieldOf : List ℕ → Step → List ℕ → List ℕ → Field
 fieldOf gives s exchanges best = record { arc = λ u v. has (getD gives u 0) v; free = s .free .0; ends = endsOf s exchanges best }

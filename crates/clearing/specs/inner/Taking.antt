@@ -9,9 +9,9 @@ use lib.ListN.{length, getD, take}
 use Rattle.pool.specs.declared.value.Pool.{Pool}
 use Rattle.pool.specs.declared.limits.Limits.{Limits}
 use Rattle.kep.specs.Lists.{distinct, tabulate, Each}
-use Rattle.kep.specs.Graph.{Graph, isMember, givers}
+use Rattle.kep.specs.Graph.{Graph, givers}
 use Rattle.pool.specs.Limits.{limitsFit}
-use Rattle.kep.specs.Sets.{Part, setOf, setWhere}
+use Rattle.kep.specs.Sets.{Part, setOf}
 use Rattle.kep.specs.inner.Lowest.{lowest}
 use Rattle.pool.specs.Value.{graphOf, poolFits}
 use Rattle.clearing.specs.declared.seeking.Step.{Step}
@@ -54,7 +54,6 @@ stepOf p free =
     let first = lowest free in
     record {
       free = record { 0 = free };
-      members = record { 0 = setWhere 16 (isMember (graphOf p)) };
       goal = record { 0 = goalBy (ltb first (p .altruists)) (givers (graphOf p) first) };
     }
 

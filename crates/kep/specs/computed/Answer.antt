@@ -31,6 +31,6 @@ pick score form p [] = p
 pick score form p (q ∷ qs) = better score form q (pick score form p qs)
 
 -- the answer of clearing for any worth w of the vertices: of the legal plans one that is worth most, and of those the one
--- whose records come first. Document 01's worth is `memberWorth g`, so that it is one "covering maximum number of non-altruistic vertices" (001, (Lc, Lp)-KEP)
+-- whose records come first. Clearing's worth is `memberWeeks`: most members, and of those most weeks (`weeks-optimum`, proofs/Weeks)
 unfoldable pub answer : (ℕ → ℕ) → Graph → ℕ → ℕ → List (List ℕ)
 answer w g lc lp = pick (λ p. total w (flat p)) (recordForm g) [] (plans g lc lp)

@@ -1,16 +1,20 @@
 -- How the best table is filled, as functions on tables. That this gives `best` is proved (`next-best`).
 use mathlib.Core.Bool.{Bool, true}
 use mathlib.Core.List.{List}
-use Prim.Native.Nat.{ℕ, _+_, _-_}
-use lib.Bits.{bitAnd}
-use lib.Count.{ones}
-use lib.ListN.{getD}
-use Rattle.kep.specs.Sets.{counted}
+use Prim.Native.Nat.{ℕ, _+_, _-_, _^_, _≤_, _<_}
+use lib.ListN.{length, getD}
+use Rattle.kep.specs.Sets.{counted, worthOf}
 use Rattle.kep.specs.computed.Table.{markedParts, greatestOf, best}
 
--- how many of `members`, the set of all members, are in t
-abbrev pub heldIn : ℕ → ℕ → ℕ
-heldIn members t = ones (bitAnd t members)
+-- what each vertex below `size` is worth, as a list: so little that the worth of a set fits 32 bits
+pub record Worths (size : ℕ) (each : List ℕ) : Type 0 where
+  pub few : size ≤ 14
+  pub told : size ≤ length each
+  pub small : (x : ℕ) → x < size → getD each x 0 < 2 ^ 28
+
+-- the worth of a set by that list
+abbrev pub worthBy : List ℕ → ℕ → ℕ → ℕ
+worthBy each size s = worthOf (λ x. getD each x 0) size s
 
 -- what a set offers: its worth where it is marked, else 0
 unfoldable pub offer : (ℕ → ℕ) → (ℕ → Bool) → ℕ → ℕ

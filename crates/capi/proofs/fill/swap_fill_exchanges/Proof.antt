@@ -4,6 +4,9 @@ use borrow.Author.Needs.{needs}
 use Rattle.capi.proofs.fill.swap_fill_exchanges.Statement.{statement}
 use Rattle.capi.proofs.fill.swap_fill_exchanges.Tie as tie
 
+pool-from-requires : tie.Need-pool-from-requires
+pool-from-requires c κs = search needs
+
 fill-exchanges-requires : tie.Need-fill-exchanges-requires
 fill-exchanges-requires c κs = search needs
 
@@ -15,9 +18,10 @@ same-length c = search needs
 
 returns : tie.Need-returns
 returns c =
-    let filled = c .before .before .before .fill-exchanges .ensures in
-    (c .answer-filled .ensures ∙ ap countAnswer (filled .0), filled .1)
+    let f = c .before .before .before in
+    let filled = f .fill-exchanges .ensures in
+    rw (← f .before .before .pool-from .ensures) (c .answer-filled .ensures ∙ ap countAnswer (filled .0), filled .1)
 
 pub swap-fill-exchanges-spec : {M : Type 1} → statement M
 swap-fill-exchanges-spec =
-    tie.close (tie.spec fill-exchanges-requires answer-filled-requires same-length returns)
+    tie.close (tie.spec pool-from-requires fill-exchanges-requires answer-filled-requires same-length returns)

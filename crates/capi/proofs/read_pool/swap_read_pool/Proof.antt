@@ -30,15 +30,17 @@ refused-requires c κs = search needs
 
 returns : tie.Need-returns
 returns c =
-    let r = c .before .before .before .before .before .before .before in
+    let r = c .before .before .before .before .before .before .before .before in
     let o = outcome-accepted (c .before .before .before .enum-told .given .1) (r .read-pool .ensures .0) in
-    (c .accepted .ensures ∙ ap poolAnswer o, ap (λ x. leftBy x (λ p. p .gives) (now (r .before .before .args .gives))) o)
+    let a = r .before .before .args in
+    (c .accepted .ensures ∙ ap poolAnswer o, (ap (λ x. leftBy x (λ p. p .gives) (now (a .gives))) o, ap (λ x. leftBy x (λ p. p .weeks) (now (a .weeks))) o))
 
 returns-2 : tie.Need-returns-2
 returns-2 c =
-    let r = c .before .before .before .before .before .before in
+    let r = c .before .before .before .before .before .before .before in
     let o = outcome-refused (r .read-pool .result .pool) (c .before .before .verdict .given .1) (r .read-pool .ensures .0) in
-    (c .refused .ensures ∙ ap poolAnswer o, ap (λ x. leftBy x (λ p. p .gives) (now (r .before .before .args .gives))) o)
+    let a = r .before .before .args in
+    (c .refused .ensures ∙ ap poolAnswer o, (ap (λ x. leftBy x (λ p. p .gives) (now (a .gives))) o, ap (λ x. leftBy x (λ p. p .weeks) (now (a .weeks))) o))
 
 pub swap-read-pool-spec : {M : Type 1} → statement M
 swap-read-pool-spec =

@@ -71,7 +71,7 @@ skips c =
     let s = start l in
     let a = s .args in
     let wide = below l in
-    step-none (graphOf (a .pool)) (a .limits .cycle) (a .limits .chain) (small-fits (fourteen l)) (worthIn (a .pool)) (means (s .pre .0 .hold) (l .loop .free .0) (s .pre .0 .fits) (l .loop .inv .1 .0 .inside)) (l .loop .inv .1 .0) (gain (t .before .before .before)) (t .take-exchange .ensures .1)
+    step-none (graphOf (a .pool)) (a .limits .cycle) (a .limits .chain) (small-fits (fourteen l)) (worthIn (a .pool)) (means (s .pre .0 .hold) (l .loop .free .0) (l .loop .inv .1 .0 .inside)) (l .loop .inv .1 .0) (gain (t .before .before .before)) (t .take-exchange .ensures .1)
     (c .before .before .if2 .taken) (omega arith) (c .before .lowest .ensures) (c .without .ensures) (t .take-exchange .ensures .0)
 
 -- one is
@@ -84,7 +84,7 @@ goes-on c =
     let l = turn t in
     let s = start l in
     let a = s .args in
-    step-one (graphOf (a .pool)) (a .limits .cycle) (a .limits .chain) (small-fits (fourteen l)) (worthIn (a .pool)) (means (s .pre .0 .hold) (l .loop .free .0) (s .pre .0 .fits) (l .loop .inv .1 .0 .inside)) (l .loop .inv .1 .0) (gain (t .before .before .before)) (t .take-exchange .ensures .1)
+    step-one (graphOf (a .pool)) (a .limits .cycle) (a .limits .chain) (small-fits (fourteen l)) (worthIn (a .pool)) (means (s .pre .0 .hold) (l .loop .free .0) (l .loop .inv .1 .0 .inside)) (l .loop .inv .1 .0) (gain (t .before .before .before)) (t .take-exchange .ensures .1)
     (c .if2 .left) (t .take-exchange .ensures .0)
 
 cast-all : tie.Need-cast-all Inv-loop μ-loop
@@ -105,6 +105,9 @@ loop-holds c =
 
 cast-if1 : tie.Need-cast-if1 Inv-loop μ-loop
 cast-if1 c = record { fits = omega (arith, below (c .before)) }
+
+mul-if1 : tie.Need-mul-if1 Inv-loop μ-loop
+mul-if1 c = record { fits = omega (arith, below (c .before)) }
 
 shared-slice-read-if1 : tie.Need-shared-slice-read-if1 Inv-loop μ-loop
 shared-slice-read-if1 c = let l = c .before .before in omega (arith, l .loop .inv .1 .0 .inside, best-long (start l .pre .0 .hold))
@@ -179,6 +182,7 @@ choose-spec =
     sub-all
     loop-holds
     cast-if1
+    mul-if1
     shared-slice-read-if1
     mul-at
     add-take-exchange

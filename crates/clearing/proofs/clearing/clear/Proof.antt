@@ -1,6 +1,6 @@
 use borrow.Author.Needs.{needs}
 use Rattle.pool.proofs.Tested.{outcome-accepted, outcome-refused}
-use Rattle.clearing.proofs.ClearingCode.{told-refused, exchanges-stay, best-stays, plan-stays, tells-same, read-first, read-refused}
+use Rattle.clearing.proofs.ClearingCode.{tells-same, tells-refused, read-first, read-refused}
 use Rattle.clearing.proofs.clearing.clear.Statement.{statement}
 use Rattle.clearing.proofs.clearing.clear.Tie as tie
 
@@ -11,9 +11,7 @@ enum-known-verdict : tie.Need-enum-known-verdict
 enum-known-verdict c = search needs
 
 returns : tie.Need-returns
-returns c =
-    let e = read-refused _ (outcome-refused _ (c .before .verdict .given .1) (c .before .before .before .read-pool .ensures .0)) in
-    (told-refused (e _ _ _ _) _, (exchanges-stay (e _ _ _ _) _ _, (best-stays (e _ _ _ _) _ _, plan-stays (e _ _ _ _) _ _)))
+returns c = tells-refused _ _ _ _ (read-refused _ (outcome-refused _ (c .before .verdict .given .1) (c .before .before .before .read-pool .ensures .0)) _ _ _ _)
 
 enum-told : tie.Need-enum-told
 enum-told c = search needs

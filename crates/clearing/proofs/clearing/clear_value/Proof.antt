@@ -4,7 +4,7 @@ use denote.Ref.{now}
 use Rattle.pool.specs.Refusals.{accepted}
 use Rattle.pool.proofs.Tested.{outcome-accepted, outcome-refused}
 use Rattle.clearing.specs.Clearing.{clearableValue}
-use Rattle.clearing.proofs.ClearingCode.{told-refused, exchanges-stay, best-stays, plan-stays, tells-same}
+use Rattle.clearing.proofs.ClearingCode.{tells-same, tells-refused}
 use Rattle.clearing.proofs.clearing.clear_value.Statement.{statement}
 use Rattle.clearing.proofs.clearing.clear_value.Tie as tie
 
@@ -16,9 +16,7 @@ enum-known-verdict c = search needs
 
 returns : tie.Need-returns
 unfolding clearableValue
-returns c =
-    let e = outcome-refused _ (c .before .verdict .given .1) (c .before .before .before .test-lent .ensures) in
-    (told-refused e _, (exchanges-stay e _ _, (best-stays e _ _, plan-stays e _ _)))
+returns c = tells-refused _ _ _ _ (outcome-refused _ (c .before .verdict .given .1) (c .before .before .before .test-lent .ensures))
 
 enum-told : tie.Need-enum-told
 enum-told c = search needs

@@ -27,13 +27,10 @@ cast-end c = search needs
 add-end : tie.Need-add-end
 add-end c = search needs
 
-members-requires : tie.Need-members-requires
-members-requires c κs = search needs
-
 goal-from-requires : tie.Need-goal-from-requires
 goal-from-requires c κs =
-    let s = c .before .before .before .before .before .before .before .before in
-    omega (arith, first-lt (s .pre .0) (s .pre .1 .0) (s .pre .1 .1 .0) (c .before .before .lowest .ensures), ap length (s .pre .0 .givers-are), length-tabulate (givers (graphOf (s .args .pool))) 14)
+    let s = c .before .before .before .before .before .before .before in
+    omega (arith, first-lt (s .pre .0) (s .pre .1 .0) (s .pre .1 .1 .0) (c .before .lowest .ensures), ap length (s .pre .0 .givers-are), length-tabulate (givers (graphOf (s .args .pool))) 14)
 
 with-requires : tie.Need-with-requires
 with-requires c κs = search needs
@@ -49,22 +46,22 @@ part-seek-start c = search needs
 
 part-seek-end : tie.Need-part-seek-end
 part-seek-end c =
-    let s = c .before .before .before .before .before .before .before .before .before .before .before .before .before in
-    omega (arith, s .pre .1 .1 .1 .1, more-le (s .pre .0) (s .pre .1 .0) (s .pre .1 .1 .0) (c .before .before .before .before .before .before .before .lowest .ensures) (c .before .before .before .before .before .before .more-from .ensures))
+    let s = c .before .before .before .before .before .before .before .before .before .before .before .before in
+    omega (arith, s .pre .1 .1 .1 .1, more-le (s .pre .0) (s .pre .1 .0) (s .pre .1 .1 .0) (c .before .before .before .before .before .before .lowest .ensures) (c .before .before .before .before .before .more-from .ensures))
 
 seek-requires : tie.Need-seek-requires
 seek-requires c κs =
-    let s = c .before .before .before .before .before .before .before .before .before .before .before .before .before .before in
-    starts (s .pre .0) (s .pre .1 .0) (s .pre .1 .1 .0) (c .before .before .before .before .before .before .before .before .lowest .ensures) (c .before .before .before .before .before .before .members .ensures) (c .before .before .before .before .before .goal-from .ensures) (c .before .before .before .with .ensures)
-    (part-long (s .pre .0) (s .pre .1 .0) (s .pre .1 .1 .0) (c .before .before .before .before .before .before .before .before .lowest .ensures) (c .before .before .before .before .before .before .before .more-from .ensures) (now (s .args .bytes)) (s .pre .1 .1 .1 .1)) (search needs) (s .pre .1 .1 .1 .0)
+    let s = c .before .before .before .before .before .before .before .before .before .before .before .before .before in
+    starts (s .pre .0) (s .pre .1 .0) (s .pre .1 .1 .0) (c .before .before .before .before .before .before .before .lowest .ensures) (c .before .before .before .before .before .goal-from .ensures) (c .before .before .before .with .ensures)
+    (part-long (s .pre .0) (s .pre .1 .0) (s .pre .1 .1 .0) (c .before .before .before .before .before .before .before .lowest .ensures) (c .before .before .before .before .before .before .more-from .ensures) (now (s .args .bytes)) (s .pre .1 .1 .1 .1)) (search needs) (s .pre .1 .1 .1 .0)
 
 -- what the search tells, keeps and writes
 module _ (c : tie.After-seek) where
   abbrev s : tie.Start
-  s = c .before .before .before .before .before .before .before .before .before .before .before .before .before .before .before
+  s = c .before .before .before .before .before .before .before .before .before .before .before .before .before .before
 
   abbrev part : ℕ
-  part = 1 + c .before .before .before .before .before .before .before .before .more-from .result - 1
+  part = 1 + c .before .before .before .before .before .before .before .more-from .result - 1
 
   abbrev bytes : List ℕ
   bytes = putMid 1 part (now (s .args .bytes)) (c .seek .last .1 .1 .1 .1 .1 .0)
@@ -73,7 +70,7 @@ module _ (c : tie.After-seek) where
   same-bytes = same-len-mid 1 part (now (s .args .bytes)) (c .seek .last .1 .1 .1 .1 .1 .0) (c .seek .kept .1 .1 .1 .1 .1 .0) ∙ s .pre .1 .1 .1 .1
 
   clean : Clean (s .args .free .0 - 2 ^ lowest (s .args .free .0)) (c .seek .last .1 .1 .1 .1 .0)
-  clean = still-clean (s .pre .0) (s .pre .1 .0) (s .pre .1 .1 .0) (c .before .before .before .before .before .before .before .before .before .lowest .ensures) (c .before .before .before .before .before .before .before .members .ensures) (c .before .before .before .before .before .before .goal-from .ensures) (c .before .before .before .before .with .ensures) (s .pre .1 .1 .1 .0) (c .seek .kept .1 .1 .1 .1 .0) (c .seek .ensures .1 .0)
+  clean = still-clean (s .pre .0) (s .pre .1 .0) (s .pre .1 .1 .0) (c .before .before .before .before .before .before .before .before .lowest .ensures) (c .before .before .before .before .before .before .goal-from .ensures) (c .before .before .before .before .with .ensures) (s .pre .1 .1 .1 .0) (c .seek .kept .1 .1 .1 .1 .0) (c .seek .ensures .1 .0)
 
 same-length : tie.Need-same-length
 same-length c = search needs
@@ -84,7 +81,7 @@ same-length-2 c = search needs
 returns : tie.Need-returns
 returns c =
     let a = c .before .before .before .before .before in
-    (clean a, none-taken (s a .pre .0) (s a .pre .1 .0) (s a .pre .1 .1 .0) (a .before .before .before .before .before .before .before .before .before .lowest .ensures) (a .before .before .before .before .before .before .before .members .ensures) (a .before .before .before .before .before .before .goal-from .ensures) (a .before .before .before .before .with .ensures) (part a) (now (s a .args .bytes)) (a .seek .ensures .1 .1) (c .if1 .taken))
+    (clean a, none-taken (s a .pre .0) (s a .pre .1 .0) (s a .pre .1 .1 .0) (a .before .before .before .before .before .before .before .before .lowest .ensures) (a .before .before .before .before .before .before .goal-from .ensures) (a .before .before .before .before .with .ensures) (part a) (now (s a .args .bytes)) (a .seek .ensures .1 .1) (c .if1 .taken))
 
 slice-write-bytes : tie.Need-slice-write-bytes
 slice-write-bytes c = let a = c .before .before .before .before .before in omega (arith, same-bytes a)
@@ -92,7 +89,7 @@ slice-write-bytes c = let a = c .before .before .before .before .before in omega
 complete-record-requires : tie.Need-complete-record-requires
 complete-record-requires c κs =
     let a = c .before .before .before .before .before .before in
-    (s a .pre .0 .fits, (told-lt (s a .pre .0) (s a .pre .1 .0) (s a .pre .1 .1 .0) (a .before .before .before .before .before .before .before .before .before .lowest .ensures) (a .before .before .before .before .before .before .before .members .ensures) (a .before .before .before .before .before .before .goal-from .ensures) (a .before .before .before .before .with .ensures) (part a) (now (s a .args .bytes)) (a .seek .ensures .1 .1) (c .before .if1 .left) (omega (arith, s a .pre .1 .1 .1 .1)), simp length-set (same-bytes a)))
+    (s a .pre .0 .fits, (told-lt (s a .pre .0) (s a .pre .1 .0) (s a .pre .1 .1 .0) (a .before .before .before .before .before .before .before .before .lowest .ensures) (a .before .before .before .before .before .before .goal-from .ensures) (a .before .before .before .before .with .ensures) (part a) (now (s a .args .bytes)) (a .seek .ensures .1 .1) (c .before .if1 .left) (omega (arith, s a .pre .1 .1 .1 .1)), simp length-set (same-bytes a)))
 
 same-length-3 : tie.Need-same-length-3
 same-length-3 c = search needs
@@ -103,7 +100,7 @@ same-length-4 c = let a = c .before .before .before .before .before .before .bef
 returns-2 : tie.Need-returns-2
 returns-2 c =
     let a = c .before .before .before .before .before .before .before .before .before in
-    (clean a, one-taken (s a .pre .0) (s a .pre .1 .0) (s a .pre .1 .1 .0) (a .before .before .before .before .before .before .before .before .before .lowest .ensures) (a .before .before .before .before .before .before .before .members .ensures) (a .before .before .before .before .before .before .goal-from .ensures) (a .before .before .before .before .with .ensures) (part a) (now (s a .args .bytes)) (a .seek .ensures .1 .1) (c .before .before .before .before .if1 .left) (omega (arith, s a .pre .1 .1 .1 .1)) (c .before .before .complete-record .ensures))
+    (clean a, one-taken (s a .pre .0) (s a .pre .1 .0) (s a .pre .1 .1 .0) (a .before .before .before .before .before .before .before .before .lowest .ensures) (a .before .before .before .before .before .before .goal-from .ensures) (a .before .before .before .before .with .ensures) (part a) (now (s a .args .bytes)) (a .seek .ensures .1 .1) (c .before .before .before .before .if1 .left) (omega (arith, s a .pre .1 .1 .1 .1)) (c .before .before .complete-record .ensures))
 
 pub take-exchange-spec : {M : Type 1} → statement M
 take-exchange-spec =
@@ -113,7 +110,6 @@ take-exchange-spec =
     more-from-requires
     cast-end
     add-end
-    members-requires
     goal-from-requires
     with-requires
     slice-aggregate-seek

@@ -8,8 +8,9 @@ use native.Mathlib.Omega.{arith}
 use denote.Ref.{now}
 use lib.Dec.{T}
 use lib.ListN.{getD}
-use Rattle.pool.specs.Value.{takersFit}
-use Rattle.pool.proofs.ValueLaws.{takersAllowed, takers-pass, takers-fail, arcs-pass, arcs-fail}
+use Rattle.pool.specs.Value.{takersFit, arcsFit}
+use Rattle.pool.proofs.ValueLaws.{takersAllowed, takers-pass, takers-fail}
+use Rattle.kep.proofs.ListLaws.{all-pass, one-fails}
 use Rattle.pool.proofs.value.arcs_fit.Statement.{statement}
 use Rattle.pool.proofs.value.arcs_fit.Tie as tie
 
@@ -50,11 +51,12 @@ allowed-is c =
     (c .if1 .came)
 
 returns : tie.Need-returns Inv-loop μ-loop
+unfolding arcsFit
 returns c =
     let l = c .before .before .before .before .before in
     let s = l .before .before .before in
     let u = l .loop .u in
-    arcs-fail (s .args .size) (s .args .altruists) (now (s .args .gives)) u (omega arith)
+    one-fails (takersFit (s .args .size) (s .args .altruists) (now (s .args .gives))) 14 {x = u} (omega arith)
     (takers-fail (s .args .size) (s .args .altruists) (now (s .args .gives)) u (wide (c .before .before)) (allowed-is (c .before .before)) (c .if2 .taken))
 
 add-u : tie.Need-add-u Inv-loop μ-loop
@@ -74,7 +76,8 @@ loop-again c =
     )
 
 returns-2 : tie.Need-returns-2 Inv-loop μ-loop
-returns-2 c = arcs-pass _ _ _ (λ k h. c .before .loop .inv .1 k (omega arith))
+unfolding arcsFit
+returns-2 c = all-pass _ 14 (λ k h. c .before .loop .inv .1 k (omega arith))
 
 pub arcs-fit-spec : {M : Type 1} → statement M
 arcs-fit-spec =

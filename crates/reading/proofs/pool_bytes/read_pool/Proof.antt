@@ -32,8 +32,11 @@ enum-known-scan c = search needs
 takers-requires : tie.Need-takers-requires
 takers-requires c κs = search needs
 
-cast-t15 : tie.Need-cast-t15
-cast-t15 c = search needs
+waited-requires : tie.Need-waited-requires
+waited-requires c κs = search needs
+
+cast-t16 : tie.Need-cast-t16
+cast-t16 c = search needs
 
 enum-known-scan-2 : tie.Need-enum-known-scan-2
 enum-known-scan-2 c = search needs
@@ -43,12 +46,13 @@ refused-requires-3 c κs = search needs
 
 returns-3 : tie.Need-returns-3
 returns-3 c =
-    let m = c .before .before .before in
+    let t = c .before in
+    let m = t .before .before .before in
     let e = m .before .before in
     let bytes = now (e .before .before .before .args .bytes) in
-    let done = sym (ap scanOutcome (c .before .before .scan .given .1)) ∙ m .before .scan-records .ensures in
+    let done = sym (ap scanOutcome (t .before .before .scan .given .1)) ∙ m .before .scan-records .ensures in
     answer-accepted bytes _
-    (ap (λ p. accepted p) (pool-read bytes refl (records-accepted _ _ (sym done)) (c .takers .ensures)) ∙ sym (read-by bytes (e .before .if1 .left) (e .if2 .left) done))
+    (ap (λ p. accepted p) (pool-read bytes refl (records-accepted _ _ (sym done)) (t .takers .ensures) (c .waited .ensures)) ∙ sym (read-by bytes (e .before .if1 .left) (e .if2 .left) done))
 
 returns-4 : tie.Need-returns-4
 returns-4 c =
@@ -69,7 +73,8 @@ read-pool-spec =
     scan-records-requires
     enum-known-scan
     takers-requires
-    cast-t15
+    waited-requires
+    cast-t16
     enum-known-scan-2
     refused-requires-3
     returns-3

@@ -1,15 +1,15 @@
 use borrow.Author.Needs.{needs}
 use denote.Ref.{now}
 use mathlib.Core.List.{_++_}
-use mathlib.Core.Path.{_≡_, refl, ap, _∙_}
+use mathlib.Core.Path.{_≡_, refl}
 use Prim.Native.Nat.{_≤_, _-_, _/_}
 use native.Mathlib.Omega.{arith}
-use lib.ListN.{length, drop, replicate}
+use lib.ListN.{length, drop}
 use Rattle.kep.specs.Lists.{tabulate}
-use Rattle.reading.specs.Fields.{recordWidth, mostRecords, poolRecords}
+use Rattle.reading.specs.Fields.{recordWidth, poolRecords}
 use Rattle.reading.specs.computed.Pool.{takersOf}
 use Rattle.kep.proofs.Tables.{tabulate-store}
-use Rattle.reading.proofs.Arcs.{replicate-behind}
+use Rattle.reading.proofs.Arcs.{places-filled}
 use Rattle.reading.proofs.takers.takers.Statement.{statement}
 use Rattle.reading.proofs.takers.takers.Tie as tie
 
@@ -44,14 +44,7 @@ loop-again c =
     (search needs, tabulate-store _ (l .loop .u) _ (omega arith) (l .loop .inv .1) (c .takers-of .ensures))
 
 returns : tie.Need-returns Inv-loop μ-loop
-returns c =
-    let l = c .before in
-    let bytes = now (l .before .before .args .bytes) in
-    let f = takersOf (poolRecords bytes) in
-    let done : l .loop .u ≡ length bytes / recordWidth = omega arith in
-    l .loop .inv .1
-    ∙ ap (λ k. tabulate f k ++ drop k (replicate mostRecords 0)) done
-    ∙ ap (λ r. tabulate f (length bytes / recordWidth) ++ r) (replicate-behind (length bytes / recordWidth) mostRecords (l .before .before .pre))
+returns c = let l = c .before in places-filled (takersOf (poolRecords (now (l .before .before .args .bytes)))) (l .before .before .pre) (omega arith) (l .loop .inv .1)
 
 pub takers-spec : {M : Type 1} → statement M
 takers-spec =

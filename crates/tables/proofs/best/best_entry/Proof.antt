@@ -1,6 +1,6 @@
 use mathlib.Core.Logic.{⊎-elim}
 use native.Mathlib.Omega.{arith}
-use mir.Facts.{fits-8-64}
+use mir.Facts.{fits-32-64}
 use Rattle.kep.proofs.Parts.{part-le}
 use Rattle.kep.proofs.Down.{step-below}
 use Rattle.kep.specs.inner.BestFilling.{looked, nextBest}
@@ -22,17 +22,23 @@ loop-holds c = trying-start
 sub-rest : tie.Need-sub-rest Inv-loop μ-loop
 sub-rest c = part-le (c .before .loop .inv .inside)
 
+mul-sum : tie.Need-mul-sum Inv-loop μ-loop
+mul-sum c = omega (arith, part-le (c .before .loop .inv .inside))
+
 shared-slice-read-sum : tie.Need-shared-slice-read-sum Inv-loop μ-loop
 shared-slice-read-sum c = omega (arith, part-le (c .before .before .loop .inv .inside))
 
 cast-sum : tie.Need-cast-sum Inv-loop μ-loop
-cast-sum c = fits-8-64 (c .shared-slice-known .given _)
+cast-sum c = fits-32-64 (c .shared-slice-known .given _)
+
+mul-sum-2 : tie.Need-mul-sum-2 Inv-loop μ-loop
+mul-sum-2 c = omega arith
 
 shared-slice-read-sum-2 : tie.Need-shared-slice-read-sum-2 Inv-loop μ-loop
 shared-slice-read-sum-2 c = omega arith
 
 cast-sum-2 : tie.Need-cast-sum-2 Inv-loop μ-loop
-cast-sum-2 c = fits-8-64 (c .shared-slice-known2 .given _)
+cast-sum-2 c = fits-32-64 (c .shared-slice-known2 .given _)
 
 add-sum : tie.Need-add-sum Inv-loop μ-loop
 add-sum c = sum-fits (c .before .shared-slice-known .given _) (c .shared-slice-known2 .given _)
@@ -60,8 +66,10 @@ best-entry-spec =
     μ-loop
     loop-holds
     sub-rest
+    mul-sum
     shared-slice-read-sum
     cast-sum
+    mul-sum-2
     shared-slice-read-sum-2
     cast-sum-2
     add-sum

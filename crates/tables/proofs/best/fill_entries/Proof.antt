@@ -35,6 +35,9 @@ entry-is c = let l = c .before .before .before in c .best-entry .ensures ∙ nex
 cast-table : tie.Need-cast-table Inv-loop μ-loop
 cast-table c = let l = c .before .before .before in omega (arith, entry-is c, l .before .before .before .pre .1 .1 (l .loop .s) (omega arith))
 
+mul-table : tie.Need-mul-table Inv-loop μ-loop
+mul-table c = search needs
+
 slice-write-table : tie.Need-slice-write-table Inv-loop μ-loop
 slice-write-table c = search needs
 
@@ -68,6 +71,7 @@ fill-entries-spec =
     loop-holds
     best-entry-requires
     cast-table
+    mul-table
     slice-write-table
     add-s
     loop-less

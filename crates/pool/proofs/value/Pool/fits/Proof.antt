@@ -15,9 +15,17 @@ slice-aggregate-arcs-fit c = search needs
 arcs-fit-requires : tie.Need-arcs-fit-requires
 arcs-fit-requires c κs = search needs
 
+slice-aggregate-weeks-fit : tie.Need-slice-aggregate-weeks-fit
+slice-aggregate-weeks-fit c = search needs
+
+weeks-fit-requires : tie.Need-weeks-fit-requires
+weeks-fit-requires c κs = search needs
+
 returns-3 : tie.Need-returns-3
-returns-3 c = simp (le-leb _ _ (c .before .before .before .if1 .left), le-leb _ _ (c .before .before .if2 .left), c .arcs-fit .ensures)
+returns-3 c =
+    let t = c .before .before .before .before in
+    simp (le-leb _ _ (t .before .if1 .left), le-leb _ _ (t .if2 .left), c .before .before .arcs-fit .ensures, c .weeks-fit .ensures)
 
 pub fits-spec : {M : Type 1} → statement M
 fits-spec =
-    tie.close (tie.spec returns returns-2 slice-aggregate-arcs-fit arcs-fit-requires returns-3)
+    tie.close (tie.spec returns returns-2 slice-aggregate-arcs-fit arcs-fit-requires slice-aggregate-weeks-fit weeks-fit-requires returns-3)

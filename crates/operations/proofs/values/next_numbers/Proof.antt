@@ -2,14 +2,14 @@ use Prim.Native.Nat.{_≤_, _-_}
 use lib.ListN.{length}
 use mathlib.Core.Path.{_≡_}
 use borrow.Author.Needs.{needs}
-use Rattle.operations.proofs.values.next_value.Statement.{statement}
-use Rattle.operations.proofs.values.next_value.Tie as tie
+use Rattle.operations.proofs.values.next_numbers.Statement.{statement}
+use Rattle.operations.proofs.values.next_numbers.Tie as tie
 
 abbrev Inv-loop : tie.InvT-loop
-Inv-loop bytes gives₀ v₀ gives v = (v ≤ 14) × (length gives ≡ 14)
+Inv-loop bytes numbers₀ v₀ numbers v = (v ≤ 14) × (length numbers ≡ 14)
 
 abbrev μ-loop : tie.MeasureT-loop
-μ-loop bytes gives₀ v₀ gives v = 14 - v
+μ-loop bytes numbers₀ v₀ numbers v = 14 - v
 
 slice-aggregate-read-full : tie.Need-slice-aggregate-read-full Inv-loop μ-loop
 slice-aggregate-read-full c = search needs
@@ -23,17 +23,14 @@ loop-holds c = search needs
 mul-of-two : tie.Need-mul-of-two Inv-loop μ-loop
 mul-of-two c = search needs
 
-add-of-two : tie.Need-add-of-two Inv-loop μ-loop
-add-of-two c = search needs
-
 array-read-of-two : tie.Need-array-read-of-two Inv-loop μ-loop
 array-read-of-two c = search needs
 
 mul-of-two-2 : tie.Need-mul-of-two-2 Inv-loop μ-loop
 mul-of-two-2 c = search needs
 
-add-of-two-2 : tie.Need-add-of-two-2 Inv-loop μ-loop
-add-of-two-2 c = search needs
+add-of-two : tie.Need-add-of-two Inv-loop μ-loop
+add-of-two c = search needs
 
 array-read-of-two-2 : tie.Need-array-read-of-two-2 Inv-loop μ-loop
 array-read-of-two-2 c = search needs
@@ -41,11 +38,11 @@ array-read-of-two-2 c = search needs
 of-two-requires : tie.Need-of-two-requires Inv-loop μ-loop
 of-two-requires c κs = search needs
 
-mul-gives : tie.Need-mul-gives Inv-loop μ-loop
-mul-gives c = search needs
+mul-numbers : tie.Need-mul-numbers Inv-loop μ-loop
+mul-numbers c = search needs
 
-array-write-gives : tie.Need-array-write-gives Inv-loop μ-loop
-array-write-gives c = search needs
+array-write-numbers : tie.Need-array-write-numbers Inv-loop μ-loop
+array-write-numbers c = search needs
 
 add-v : tie.Need-add-v Inv-loop μ-loop
 add-v c = search needs
@@ -56,17 +53,11 @@ loop-less c = search needs
 loop-again : tie.Need-loop-again Inv-loop μ-loop
 loop-again c = search needs
 
-array-read-t24 : tie.Need-array-read-t24 Inv-loop μ-loop
-array-read-t24 c = search needs
-
-array-read-t27 : tie.Need-array-read-t27 Inv-loop μ-loop
-array-read-t27 c = search needs
-
 returns : tie.Need-returns Inv-loop μ-loop
 returns c = search needs
 
-pub next-value-spec : {M : Type 1} → statement M
-next-value-spec =
+pub next-numbers-spec : {M : Type 1} → statement M
+next-numbers-spec =
     tie.close
     (tie.spec
     Inv-loop
@@ -75,17 +66,14 @@ next-value-spec =
     read-full-requires
     loop-holds
     mul-of-two
-    add-of-two
     array-read-of-two
     mul-of-two-2
-    add-of-two-2
+    add-of-two
     array-read-of-two-2
     of-two-requires
-    mul-gives
-    array-write-gives
+    mul-numbers
+    array-write-numbers
     add-v
     loop-less
     loop-again
-    array-read-t24
-    array-read-t27
     returns)
