@@ -14,6 +14,24 @@ pub const GOOD_WEEKS: [u16; 9] = [0, 1, 254, 255, 256, 257, 768, 998, 999];
 pub const BAD_WEEKS: [u16; 10] = [
     1_000, 1_001, 1_023, 1_024, 1_025, 2_000, 32_768, 59_139, 65_280, 65_535,
 ];
+/// Pool values that have one arc more than a good one and are refused by 6: "arc into a house
+/// or from or to a place that isn't there".
+pub fn values_of_arcs_astray(good: &PoolValue) -> Vec<PoolValue> {
+    let (places, houses) = (usize::from(good.places), usize::from(good.houses));
+    let mut values = Vec::new();
+    for giver in 0..MOST_PLACES {
+        for taker in 0..16 {
+            if giver < places && (houses..places).contains(&taker) {
+                continue;
+            }
+            let mut value = *good;
+            value.gives[giver] |= 1 << taker;
+            values.push(value);
+        }
+    }
+    values
+}
+
 /// Pool values that differ from a good one in weeks alone, and are refused by 6: "weeks above
 /// 999" at each place, houses too, "or other than 0 for a place that isn't there".
 pub fn values_of_bad_weeks(good: &PoolValue) -> Vec<PoolValue> {

@@ -53,11 +53,15 @@ fn expect_cleared(
     }
 }
 
-/// Against all legal plans, in just the room needed.
-fn compare_with_all_plans(random: &mut Random, pool: &Pool, limits: Limits) {
+/// In just the room needed.
+fn expect_pool_cleared(random: &mut Random, pool: &Pool, limits: Limits, expected: Cleared) {
     let rooms = Rooms::needed(pool.places);
-    let expected = Ok(cleared(pool, limits));
-    expect_cleared(random, &bytes_of_pool(pool), limits, rooms, &expected);
+    expect_cleared(random, &bytes_of_pool(pool), limits, rooms, &Ok(expected));
+}
+
+/// Against all legal plans.
+fn compare_with_all_plans(random: &mut Random, pool: &Pool, limits: Limits) {
+    expect_pool_cleared(random, pool, limits, cleared(pool, limits));
 }
 
 /// Against the second methods, in just the room needed.
@@ -371,8 +375,7 @@ fn expect_plan(
     let expected = large::cleared(&pool, limits);
     let case = (gives, limits);
     assert_eq!(expected.plan, plan_of(records), "by hand: {case:?}");
-    let rooms = Rooms::needed(gives.len());
-    expect_cleared(random, &bytes_of_pool(&pool), limits, rooms, &Ok(expected));
+    expect_pool_cleared(random, &pool, limits, expected);
 }
 
 /// The lowest places lead everywhere and nothing leads back to them: all are left out, one
@@ -814,13 +817,12 @@ fn pools_of_every_size(random: &mut Random) -> Vec<(Pool, Limits)> {
 fn weeks_of_houses_make_no_difference() {
     let random = &mut Random::new(330);
     for (mut pool, limits) in pools_of_every_size(random) {
-        let expected = Ok(cleared_by_call(&pool, limits));
+        let expected = cleared_by_call(&pool, limits);
         for weeks in [0, 1, GREATEST_WEEKS] {
             for house in 0..pool.houses {
                 pool.weeks[house] = random.pick(&[weeks, weeks, 500]);
             }
-            let rooms = Rooms::needed(pool.places);
-            expect_cleared(random, &bytes_of_pool(&pool), limits, rooms, &expected);
+            expect_pool_cleared(random, &pool, limits, expected.clone());
         }
     }
 }
@@ -834,13 +836,12 @@ fn equal_weeks_are_as_no_weeks() {
         let none = cleared_by_call(&with_weeks(&pool, vec![0; pool.places]), limits);
         for weeks in [1, 255, 256, GREATEST_WEEKS] {
             let more = |entry: &u32| entry + entry / 65_536 * u32::from(weeks);
-            let expected = Ok(Cleared {
+            let expected = Cleared {
                 best: none.best.iter().map(more).collect(),
                 ..none.clone()
-            });
+            };
             let equal = with_weeks(&pool, vec![weeks; pool.places]);
-            let rooms = Rooms::needed(pool.places);
-            expect_cleared(random, &bytes_of_pool(&equal), limits, rooms, &expected);
+            expect_pool_cleared(random, &equal, limits, expected);
         }
     }
 }
@@ -938,8 +939,7 @@ fn one_member_more_comes_before_any_weeks() {
                 plan_of(&[('C', &chain)]),
                 "{pool:?} {limits:?}"
             );
-            let rooms = Rooms::needed(pool.places);
-            expect_cleared(random, &bytes_of_pool(&pool), limits, rooms, &Ok(expected));
+            expect_pool_cleared(random, &pool, limits, expected);
         }
     }
 }
@@ -987,8 +987,7 @@ fn the_one_that_waited_least_is_left_out() {
         let served: Vec<u8> = (0..14).filter(|&place| usize::from(place) != out).collect();
         assert_eq!(expected.plan, plan_of(&[('C', &served)]));
         assert_eq!(expected.best[expected.best.len() - 1], 12 * 65_536 + 11_988);
-        let rooms = Rooms::needed(MOST_PLACES);
-        expect_cleared(random, &bytes_of_pool(&pool), limits, rooms, &Ok(expected));
+        expect_pool_cleared(random, &pool, limits, expected);
     }
 }
 

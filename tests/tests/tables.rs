@@ -727,44 +727,31 @@ fn expect_bad_value(value: &PoolValue, exchanges: &mut Lent<u16>, best: &mut Len
     best.expect_untouched(value);
 }
 
-#[test]
-fn every_arc_astray_is_refused() {
-    let random = &mut Random::new(219);
-    let exchanges = &mut Lent::garbage(random, 1 << 14);
-    let best = &mut Lent::garbage(random, 1 << 14);
-    for places in 0..=MOST_PLACES {
-        for houses in 0..=places {
-            let gives = random_shape(random, places, houses);
-            let good = pool_with(places, houses, gives).value();
-            for giver in 0..14 {
-                for taker in 0..16 {
-                    if giver < places && (houses..places).contains(&taker) {
-                        continue;
-                    }
-                    let mut value = good;
-                    value.gives[giver] |= 1 << taker;
-                    expect_bad_value(&value, exchanges, best);
-                }
-            }
-        }
-    }
-}
-
-/// Of houses and members alike, and of places that aren't there.
-#[test]
-fn weeks_outside_their_range_are_refused() {
-    let random = &mut Random::new(229);
+/// Every value that is made bad of a good one, for good ones of every size and every number
+/// of houses.
+fn expect_bad_values(random: &mut Random, made_bad: impl Fn(&PoolValue) -> Vec<PoolValue>) {
     let exchanges = &mut Lent::garbage(random, 1 << 14);
     let best = &mut Lent::garbage(random, 1 << 14);
     for places in 0..=MOST_PLACES {
         for houses in 0..=places {
             let gives = random_shape(random, places, houses);
             let good = pool_that_waits(random, houses, gives).value();
-            for value in values_of_bad_weeks(&good) {
+            for value in made_bad(&good) {
                 expect_bad_value(&value, exchanges, best);
             }
         }
     }
+}
+
+#[test]
+fn every_arc_astray_is_refused() {
+    expect_bad_values(&mut Random::new(219), values_of_arcs_astray);
+}
+
+/// Of houses and members alike, and of places that aren't there.
+#[test]
+fn weeks_outside_their_range_are_refused() {
+    expect_bad_values(&mut Random::new(229), values_of_bad_weeks);
 }
 
 /// Every number as the weeks of a house, of a member and of a place that isn't there.

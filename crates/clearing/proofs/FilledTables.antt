@@ -17,7 +17,6 @@ use Rattle.kep.specs.Sets.{Part}
 use Rattle.pool.specs.Value.{graphOf, weeksIn, mostWeeks, poolFits}
 use Rattle.tables.specs.Calls.{marked, worthIn, setWorth, bestLeft}
 use Rattle.exchanges.specs.ExchangesCall.{exchangesLeft}
-use Rattle.kep.specs.Graph.{isMember}
 use Rattle.kep.specs.Table.{served, perMember, Family}
 use Rattle.kep.specs.computed.Table.{entry, marks, best, bestOf, everything}
 use Rattle.clearing.specs.computed.Cleared.{planOf, exchangesOf, bestsOf}
@@ -26,12 +25,13 @@ use Rattle.kep.proofs.Tables.{getD-tabulate, tabulate-below, written-front}
 use Rattle.kep.proofs.Parts.{part-le}
 use Rattle.kep.proofs.BestTable.{best-attained, best-bound, best-worth}
 use Rattle.exchanges.proofs.ExchangesCall.{passes-all as exchanges-pass, leaves as exchanges-leave}
+use Rattle.tables.proofs.BestCode.{worth-most}
 use Rattle.tables.proofs.BestCall.{accepted-all as best-accepted}
 use Rattle.kep.proofs.Answer.{answer-best, answer-legal}
 use Rattle.kep.proofs.BestPlan.{best-count}
 use Rattle.kep.proofs.Weeks.{waited-small, weeks-told}
-use Rattle.kep.proofs.Worth.{counted-le, worth-le}
-use Rattle.pool.proofs.ValueLaws.{fits-size, fits-weeks, few-weeks}
+use Rattle.kep.proofs.Worth.{worth-le}
+use Rattle.pool.proofs.ValueLaws.{fits-size, few-weeks}
 
 -- ---- marks that agree on the parts of a set give it the same best
 
@@ -96,5 +96,5 @@ module _ (p : Pool) (l : Limits) (fits : T (poolFits p)) where
     -- which fit a byte
     pub last-few : getD left (2 ^ p .size - 1) 0 / perMember ≤ 14
     last-few =
-        let most = worth-le (worthIn p) (p .size) (everything (graphOf p)) (perMember + mostWeeks) (λ x h. omega (arith, counted-le (isMember (graphOf p) x) (perMember + weeksIn p x), fits-weeks p fits x h)) in
+        let most = worth-le (worthIn p) (p .size) (everything (graphOf p)) (perMember + mostWeeks) (worth-most p fits) in
         omega (arith, last-best, best-worth (worthIn p) (marks (graphOf p) (l .cycle) (l .chain)) (p .size) (everything (graphOf p)), most, mul-le-mul-right (perMember + mostWeeks) (fits-size p fits))

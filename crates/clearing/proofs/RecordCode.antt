@@ -14,10 +14,9 @@ use lib.Seq.{take-at, set-at, append-snoc}
 use borrow.Author.Tests.{lt-ltb, le-ltb}
 use Rattle.pool.specs.declared.value.Pool.{Pool}
 use Rattle.kep.specs.Graph.{Graph, isAltruist, isMember}
-use Rattle.kep.specs.Sets.{setWhere, sizeBelow}
+use Rattle.kep.specs.Sets.{setWhere, sizeBelow, worthOf}
 use Rattle.pool.specs.Value.{graphOf, poolFits}
-use Rattle.tables.specs.Calls.{membersIn}
-use Rattle.kep.specs.Table.{served}
+use Rattle.kep.specs.Table.{memberWorth, served}
 use Rattle.kep.specs.Plan.{kindOf, recordOf}
 use Rattle.kep.proofs.Vertices.{where-lt}
 use Rattle.kep.proofs.Operations.{size-ones}
@@ -30,7 +29,7 @@ use Rattle.kep.proofs.Bytes.{padded, padded-length, last-two}
 -- ---- its last two bytes
 
 -- the members in a set, as code counts them
-pub members-counted : (p : Pool) → T (poolFits p) → (s : ℕ) → sizeBelow 16 (bitAnd s (setWhere 16 (isMember (graphOf p)))) ≡ membersIn p s
+pub members-counted : (p : Pool) → T (poolFits p) → (s : ℕ) → sizeBelow 16 (bitAnd s (setWhere 16 (isMember (graphOf p)))) ≡ worthOf (memberWorth (graphOf p)) (p .size) s
 members-counted p fits s =
     let members = setWhere 16 (isMember (graphOf p)) in
     size-ones 16 (bitAnd s members) (lt-of-le-of-lt (and-le-r s members) (where-lt 16 (isMember (graphOf p))))

@@ -7,7 +7,8 @@ ghost use Prim.Native.Nat.{ℕ, _<_, _^_};
 ghost use lib.Dec.{T};
 ghost use lib.ListN.{length, replicate};
 ghost use Rattle.pool.specs.Value.{graphOf, poolFits};
-ghost use Rattle.tables.specs.Calls.{membersIn};
+ghost use Rattle.kep.specs.Sets.{worthOf};
+ghost use Rattle.kep.specs.Table.{memberWorth};
 ghost use Rattle.kep.specs.Plan.{recordOf, kindOf};
 ghost use Rattle.clearing.specs.inner.Taking.{Fronted};
 
@@ -22,7 +23,7 @@ const RING: u8 = 82;
 // The members in a set.
 pub(crate) fn members_in(pool: Pool, set: VertexSet) -> u8
     requires { ⌜ T (poolFits pool) ⌝ }
-    ensures { λ r. ⌜ r ≡ membersIn pool (set .0) ⌝ }
+    ensures { λ r. ⌜ r ≡ worthOf (memberWorth (graphOf pool)) (pool .size) (set .0) ⌝ }
 {
     VertexSet(set.0 & pool.members().0).size()
 }

@@ -164,9 +164,9 @@ all-below p k = (
   λ f. each-all p (each-of (upto k 0) (λ x m. f x (rw zero-add at (upto-out k 0 m .1)))),
 )
 
--- as a loop finds it: all pass, or one fails
-pub all-pass : (p : ℕ → Bool) (k : ℕ) → ((x : ℕ) → x < k → T (p x)) → true ≡ all p (upto k 0)
-all-pass p k f = sym (is-true (all p (upto k 0)) (all-below p k .1 f))
+-- as a loop finds it: none fails, or one does
+pub none-fails : (p : ℕ → Bool) (k : ℕ) → ((x : ℕ) → x < k → T (p x)) → true ≡ all p (upto k 0)
+none-fails p k f = sym (is-true (all p (upto k 0)) (all-below p k .1 f))
 
 pub one-fails : (p : ℕ → Bool) (k : ℕ) {x : ℕ} → x < k → (T (p x) → ⊥) → false ≡ all p (upto k 0)
 one-fails p k {x} h n = sym (is-false (all p (upto k 0)) (λ t. n (all-below p k .0 t x h)))

@@ -20,7 +20,7 @@ use Rattle.kep.specs.Sets.{counted}
 use Rattle.kep.specs.inner.Lowest.{lowest}
 use Rattle.kep.specs.Graph.{isMember}
 use Rattle.kep.specs.Table.{perMember}
-use Rattle.pool.specs.Value.{graphOf, weeksIn, poolFits}
+use Rattle.pool.specs.Value.{graphOf, weeksIn, mostWeeks, poolFits}
 use Rattle.pool.proofs.ValueLaws.{fits-size, fits-weeks}
 use Rattle.kep.specs.computed.Table.{best}
 use Rattle.kep.specs.inner.BestFilling.{Worths, worthBy, offer, bestOffered}
@@ -73,11 +73,14 @@ module _ {size : ℕ} {each : List ℕ} (worths : Worths size each) where
 
 -- the worths of a pool's vertices
 module _ (p : Pool) (fits : T (poolFits p)) where
+  pub worth-most : (x : ℕ) → x < p .size → worthIn p x ≤ perMember + mostWeeks
+  worth-most x l = omega (arith, counted-le (isMember (graphOf p) x) (perMember + weeksIn p x), fits-weeks p fits x l)
+
   pub worths-are : Worths (p .size) (tabulate (worthIn p) 14)
   worths-are = record {
     few = fits-size p fits;
     told = omega (arith, fits-size p fits, length-tabulate (worthIn p) 14);
-    small = λ x l. rw (getD-whole (worthIn p) 14 x (omega (arith, fits-size p fits))) (omega (arith, counted-le (isMember (graphOf p) x) (perMember + weeksIn p x), fits-weeks p fits x l));
+    small = λ x l. rw (getD-whole (worthIn p) 14 x (omega (arith, fits-size p fits))) (omega (arith, worth-most x l));
   }
 
   -- and of sets of them

@@ -11,7 +11,7 @@ use Rattle.pool.specs.Refusals.{numberOf, Outcome, accepted, refused, tested, l
 use Rattle.pool.specs.Value.{graphOf, weeksIn, poolFits}
 use Rattle.tables.specs.declared.filled.Filled.{Filled}
 use Rattle.tables.specs.declared.filled.Filled.the-variants as filled
-use Rattle.kep.specs.Table.{memberWorth, memberWeeks}
+use Rattle.kep.specs.Table.{memberWeeks}
 use Rattle.kep.specs.computed.Table.{best}
 
 -- what the answer of a filling call stands for
@@ -32,10 +32,6 @@ worthIn p v = memberWeeks (graphOf p) (weeksIn p) v
 -- what a set is worth: "members × 65,536 + weeks"
 abbrev pub setWorth : Pool → ℕ → ℕ
 setWorth p s = worthOf (worthIn p) (p .size) s
-
--- the members in a set
-abbrev pub membersIn : Pool → ℕ → ℕ
-membersIn p s = worthOf (memberWorth (graphOf p)) (p .size) s
 
 -- 6: a pool value that does not fit; 8, 9: a table under 2 to the n entries
 abbrev pub bestTests : Pool → List ℕ → List ℕ → List (ℕ × Bool)

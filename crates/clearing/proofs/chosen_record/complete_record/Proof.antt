@@ -9,7 +9,7 @@ use lib.Count.{ones, ones-le}
 use lib.ListN.{length, length-set}
 use lib.Pow.{pow-mono}
 use Rattle.pool.specs.Value.{graphOf}
-use Rattle.tables.specs.Calls.{membersIn}
+use Rattle.kep.specs.Sets.{worthOf}
 use Rattle.kep.specs.Table.{memberWorth}
 use Rattle.kep.proofs.Operations.{size-ones}
 use Rattle.kep.proofs.SetOf.{ones-setOf}
@@ -94,7 +94,7 @@ returns c xs f =
     let g = graphOf (a .pool) in
     let fr = front u xs f in
     let kind = kind-by-front fr g (f .some) (c .before .kind-of .ensures) in
-    let members = c .members-in .ensures ∙ ap (membersIn (a .pool)) (f .set-is) ∙ list-worth (memberWorth g) (a .pool .size) xs (f .apart) (f .below) in
+    let members = c .members-in .ensures ∙ ap (worthOf (memberWorth g) (a .pool .size)) (f .set-is) ∙ list-worth (memberWorth g) (a .pool .size) xs (f .apart) (f .below) in
     record-written fr g kind members
 
 pub complete-record-spec : {M : Type 1} → statement M

@@ -10,7 +10,7 @@ use lib.Dec.{T}
 use lib.ListN.{getD}
 use Rattle.pool.specs.Value.{takersFit, arcsFit}
 use Rattle.pool.proofs.ValueLaws.{takersAllowed, takers-pass, takers-fail}
-use Rattle.kep.proofs.ListLaws.{all-pass, one-fails}
+use Rattle.kep.proofs.ListLaws.{none-fails, one-fails}
 use Rattle.pool.proofs.value.arcs_fit.Statement.{statement}
 use Rattle.pool.proofs.value.arcs_fit.Tie as tie
 
@@ -77,7 +77,7 @@ loop-again c =
 
 returns-2 : tie.Need-returns-2 Inv-loop μ-loop
 unfolding arcsFit
-returns-2 c = all-pass _ 14 (λ k h. c .before .loop .inv .1 k (omega arith))
+returns-2 c = none-fails _ 14 (λ k h. c .before .loop .inv .1 k (omega arith))
 
 pub arcs-fit-spec : {M : Type 1} → statement M
 arcs-fit-spec =

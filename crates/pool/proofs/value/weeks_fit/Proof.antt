@@ -11,7 +11,7 @@ use denote.Ref.{now}
 use lib.Dec.{T, ltb, leb, leb→le, le→leb}
 use lib.ListN.{getD}
 use Rattle.kep.specs.Sets.{counted}
-use Rattle.kep.proofs.ListLaws.{all-pass, one-fails}
+use Rattle.kep.proofs.ListLaws.{none-fails, one-fails}
 use Rattle.pool.specs.Value.{mostWeeks, weeksFit}
 use Rattle.pool.proofs.value.weeks_fit.Statement.{statement}
 use Rattle.pool.proofs.value.weeks_fit.Tie as tie
@@ -66,7 +66,7 @@ loop-again c =
 
 returns-2 : tie.Need-returns-2 Inv-loop μ-loop
 unfolding weeksFit
-returns-2 c = all-pass _ 14 (λ k h. c .before .loop .inv .1 k (omega arith))
+returns-2 c = none-fails _ 14 (λ k h. c .before .loop .inv .1 k (omega arith))
 
 pub weeks-fit-spec : {M : Type 1} → statement M
 weeks-fit-spec =
