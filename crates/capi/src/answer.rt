@@ -7,7 +7,7 @@ use pool::Refusal;
 
 // number is 0 where the input was accepted, and first and second are what the call gives back; else number is the refusal's, and at its spot.
 #[repr(C)]
-#[derive(Drop)]
+#[derive(Clone, Copy)]
 pub struct Answer {
     pub number: u64,
     pub at: u64,

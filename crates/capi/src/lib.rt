@@ -1,4 +1,6 @@
 // The calls for C, and so for Rust and Python. Each answers four numbers.
+#![tactic(auto)]
+
 mod answer;
 mod check;
 mod clear;

@@ -11,7 +11,7 @@ use pool::{Cause, Limits, Pool, Refusal, Verdict};
 use reading::read_pool;
 use tables::{MEMBER, fill_best};
 
-#[derive(Drop)]
+#[derive(Clone, Copy)]
 pub enum Cleared {
     // The members served, and the number of records written.
     Plan { served: u8, records: usize },

@@ -1,4 +1,6 @@
 // Layer three of document 01: clearing. Both tables, and the first of the plans that are worth most, chosen step by step.
+#![tactic(auto)]
+
 mod choosing;
 mod chosen_record;
 mod clearing;

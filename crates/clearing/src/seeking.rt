@@ -8,7 +8,7 @@ ghost use Rattle.clearing.specs.inner.Seeking.{field_of, ends_of, open_at, kept_
 use sets::VertexSet;
 
 // What all paths of a step go by.
-#[derive(Drop)]
+#[derive(Clone, Copy)]
 pub(crate) struct Step {
     // The vertices that no exchange has taken.
     pub free: VertexSet,

@@ -1,4 +1,6 @@
 // Layer two of document 01: set tables. The exchange table marks the sets that a cycle or chain uses.
+#![tactic(auto)]
+
 mod abreast;
 mod by_lowest;
 mod exchanges;

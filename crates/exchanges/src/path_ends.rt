@@ -10,7 +10,7 @@ ghost use Rattle.exchanges.specs.inner.Abreast.{bit_where};
 use pool::Pool;
 
 // What is found of a set: the ends of its paths, and how many vertices it has.
-#[derive(Drop)]
+#[derive(Clone, Copy)]
 pub(crate) struct Found {
     pub ends: u16,
     pub size: u32,

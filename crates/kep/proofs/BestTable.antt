@@ -95,7 +95,7 @@ module _ {m : ℕ → Bool} where
       → (us : List ℕ) × Family m (s - t) us × (total v ts ≡ v t + total v us)
   unfolding total
   family_take v [] f i = absurd (Memᴰ.not-nil i)
-  family_take v {s} {t} (u ∷ ts) f i = go (Memᴰ.cases_cons i) (family_take v ts (family_rest f))
+  family_take v {s} {t} (u ∷ ts) f i = go (Memᴰ.cases_cons i) (family_take v {s = s - u} ts (family_rest f))
     where
       go : (t ≡ u) ⊎ Memᴰ t ts → (Memᴰ t ts → (us : List ℕ) × Family m (s - u - t) us × (total v ts ≡ v t + total v us))
           → (us : List ℕ) × Family m (s - t) us × (v u + total v ts ≡ v t + total v us)

@@ -32,7 +32,7 @@ leftmost_first : {f : Field} {S u : ℕ} {ys : List ℕ} (zs : List ℕ) → Lef
 leftmost_first [] (stop nothing) c = inl refl
 leftmost_first (x ∷ zs) (stop nothing) c = absurd (nothing x c.0 (zs, c.1))
 leftmost_first [] (go_on n least rest) c = inr longer
-leftmost_first {f} {S} (x ∷ zs) (go_on {v = v} {ys = ys} n least rest) c = go (λ d. leftmost_first zs rest d) (compared v x)
+leftmost_first {f} {S} (x ∷ zs) (go_on {v = v} {ys = ys} n least rest) c = go (λ d. leftmost_first {S = 2 ^ v + S} zs rest d) (compared v x)
   where
     join : (ys ≡ zs) ⊎ (ys ◁ zs) → v ≡ x → (v ∷ ys ≡ x ∷ zs) ⊎ (v ∷ ys ◁ x ∷ zs)
     join (inl r) e = inl (cc)

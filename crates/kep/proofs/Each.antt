@@ -32,6 +32,7 @@ module _ {A : Type 0} where
   each_of (x ∷ xs) f = also (f x (Memᴰ.head refl)) (each_of xs (λ y m. f y (Memᴰ.tail m)))
 
   pub each_at : {P : A → Type 0} {x : A} {xs : List A} → Each P xs → Memᴰ x xs → P x
+  each_at {P = P} none m = elim m [ ]
   each_at (also h hs) (Memᴰ.head e) = rw e h
   each_at (also h hs) (Memᴰ.tail m) = each_at hs m
 

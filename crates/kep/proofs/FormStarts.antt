@@ -19,27 +19,27 @@ use Rattle.kep.proofs.Legal.{Legal, in_order_told}
 use Rattle.kep.proofs.Answer.{Worthy}
 
 -- what is filled up determines the list, where nothing in it is the filler
-padded_same : (k c : ℕ) {xs ys : List ℕ} → length xs ≤ k → length ys ≤ k → Each (λ v. v < c) xs → Each (λ v. v < c) ys
+padded_same : (c k : ℕ) {xs ys : List ℕ} → length xs ≤ k → length ys ≤ k → Each (λ v. v < c) xs → Each (λ v. v < c) ys
     → padded k c xs ≡ padded k c ys → xs ≡ ys
-padded_same k c l m none none e = refl
-padded_same zero c l m (also h hs) ks e = absurd (omega arith)
-padded_same zero c l m none (also k ks) e = absurd (omega arith)
-padded_same (suc n) c l m none (also {x = y} {xs = ys} k ks) e =
+padded_same c k l m none none e = refl
+padded_same c zero l m (also h hs) ks e = absurd (omega arith)
+padded_same c zero l m none (also k ks) e = absurd (omega arith)
+padded_same c (suc n) l m none (also {x = y} {xs = ys} k ks) e =
     let same : c ∷ padded n c [] ≡ y ∷ padded n c ys = sym (padded_nil n c) ∙ e ∙ padded_cons n c y ys in
     absurd (omega (arith, head-eq_of_cons-eq same))
-padded_same (suc n) c l m (also {x = x} {xs = xs} h hs) none e =
+padded_same c (suc n) l m (also {x = x} {xs = xs} h hs) none e =
     let same : x ∷ padded n c xs ≡ c ∷ padded n c [] = sym (padded_cons n c x xs) ∙ e ∙ padded_nil n c in
     absurd (omega (arith, head-eq_of_cons-eq same))
-padded_same (suc n) c l m (also {x = x} {xs = xs} h hs) (also {x = y} {xs = ys} k ks) e =
+padded_same c (suc n) l m (also {x = x} {xs = xs} h hs) (also {x = y} {xs = ys} k ks) e =
     let same : x ∷ padded n c xs ≡ y ∷ padded n c ys = sym (padded_cons n c x xs) ∙ e ∙ padded_cons n c y ys in
-    ap₂ (λ z zs. z ∷ zs) (head-eq_of_cons-eq same) (padded_same n c (omega arith) (omega arith) hs ks (tail-eq_of_cons-eq same))
+    ap₂ (λ z zs. z ∷ zs) (head-eq_of_cons-eq same) (padded_same c n (omega arith) (omega arith) hs ks (tail-eq_of_cons-eq same))
 
 module _ (g : Graph) (lc lp : ℕ) (fit : FitRecords g lc lp) where
   -- records tell exchanges apart
   record_same : {x y : List ℕ} → Told g lc lp x → Told g lc lp y → record_of g x ≡ record_of g y → x ≡ y
   unfolding record_of padded
   record_same {x} {y} t u e =
-      padded_same 14 255 (fits_few fit t.0) (fits_few fit u.0) (small t) (small u)
+      padded_same 255 14 (fits_few fit t.0) (fits_few fit u.0) (small t) (small u)
       (sym (take_at (padded 14 255 x) (kind_of g x ∷ served g x ∷ []) 14 (long t))
       ∙ ap (take 14) e
       ∙ take_at (padded 14 255 y) (kind_of g y ∷ served g y ∷ []) 14 (long u))

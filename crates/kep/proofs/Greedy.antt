@@ -62,9 +62,9 @@ module _ (g : Graph) (lc lp : ℕ) (w : ℕ → ℕ) where
   pub plan_bound : {U : ℕ} (p : List (List ℕ)) → Plan g lc lp U p → total w (flat p) ≤ best_in U
   unfolding flat total
   plan_bound [] plan = omega arith
-  plan_bound (x ∷ p) plan =
+  plan_bound {U = U} (x ∷ p) plan =
       let (t, i, rises, rest) = plan_split g lc lp x p plan in
-      omega (arith, total_append w x (flat p), together_bound t i, plan_bound p rest)
+      omega (arith, total_append w x (flat p), together_bound t i, plan_bound {U = U - set_of x} p rest)
 
   -- a set with a best that is not 0 has a vertex
   pub best_nonempty : {U : ℕ} → 0 < best_in U → 0 < U

@@ -22,7 +22,7 @@ use Rattle.kep.proofs.Legal.{Legal, legal_of, legal_exchanges, legal_distinct, l
 pub rising_same : {p q : List (List ℕ)} → Pairwise Rises p → Pairwise Rises q → Permᴰ p q → p ≡ q
 rising_same {p} {q} o o' d =
     let found = each_perm (mathlib.Core.List.Permᴰ.symm d) (each_of q (λ x m. m)) in
-    Sublistᴰ.eq_of_length (rising_part head_of p q o (pairwise_map (λ x y h. omega arith) o') found) (mathlib.Core.List.Permᴰ.length_eq d)
+    Sublistᴰ.eq_of_length (rising_part head_of p q o (pairwise_map (λ x y h. omega arith) o') found) (mathlib.Core.List.Permᴰ.length-eq d)
 
 module _ (g : Graph) (lc lp : ℕ) where
   -- told otherwise, a legal plan is legal

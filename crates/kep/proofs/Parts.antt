@@ -77,7 +77,7 @@ has_rest {t} {s} h (suc x) =
     let halves : t / 2 ≤ s / 2 = part_le (part_half h) in
     let lows : t % 2 ≤ s % 2 = part_low h in
     let half : (s - t) / 2 ≡ s / 2 - t / 2 = omega arith in
-    simp (has_suc, half) (has_rest (part_half h) x)
+    simp (has_suc, half) (has_rest {t = t / 2} (part_half h) x)
 
 pub in_rest : {t s : ℕ} → Part t s → (x : ℕ) → T (has (s - t) x) ↔ (T (has s x) × (T (has t x) → ⊥))
 in_rest {t} {s} h x =
@@ -96,7 +96,7 @@ has_sum {a} {b} h zero = go (parity a) (parity b)
 has_sum {a} {b} h (suc x) =
     let lows : a % 2 + b % 2 ≤ 1 = disjoint_low h in
     let half : (a + b) / 2 ≡ a / 2 + b / 2 = omega arith in
-    simp (has_suc, half) (has_sum (disjoint_half h) x)
+    simp (has_suc, half) (has_sum {a = a / 2} (disjoint_half h) x)
 
 -- ---- the laws of parts
 

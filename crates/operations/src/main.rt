@@ -7,6 +7,8 @@
 // | L | limits | Lc, Lp | | | 0, Lc, Lp, or the number and spot of the refusal |
 // | R | record k | 0, length (2) | k | 256 bytes, of which the first are the plan | the record's length and bytes |
 // | V | clear a pool value | Lc, Lp | | 58 bytes: places, houses, 14 sets and the weeks of 14 places | 0, served, records and all bytes of the plan, or the number and spot of the refusal |
+#![tactic(auto)]
+
 mod numbers;
 mod values;
 

@@ -10,7 +10,7 @@ use pool::{Cause, Limits, Pool};
 use sets::VertexSet;
 
 // What stood before a record: the vertices met, the least first vertex allowed, the members served.
-#[derive(Drop)]
+#[derive(Clone, Copy)]
 pub(crate) struct Before {
     pub(crate) met: VertexSet,
     pub(crate) least: u8,
@@ -18,7 +18,7 @@ pub(crate) struct Before {
 }
 
 // What stands before the next record, or the cause met.
-#[derive(Drop)]
+#[derive(Clone, Copy)]
 pub(crate) enum RecordAnswer {
     Accepted(Before),
     Refused(Cause),

@@ -10,7 +10,7 @@ use reading::read_pool;
 use sets::VertexSet;
 
 // The members served, or the first cause met.
-#[derive(Drop)]
+#[derive(Clone, Copy)]
 pub enum Checked {
     Served(u8),
     Refused(Refusal),

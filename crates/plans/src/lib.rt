@@ -1,4 +1,6 @@
 // Layer three of document 01: plans, but for clearing. Record k of plan bytes, and the checker.
+#![tactic(auto)]
+
 mod arcs;
 mod check_record;
 mod checker;

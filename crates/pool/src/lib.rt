@@ -1,4 +1,6 @@
 // Layer one of document 01: a pool as a value, the limits, and the causes of refusal by number and spot.
+#![tactic(auto)]
+
 mod givers;
 mod limits;
 mod refusal;

@@ -5,13 +5,13 @@ ghost use Rattle.pool.specs.Limits.{limits_fit, test_limits, limits_outcome, lim
 
 use crate::refusal::{Cause, Refusal, Verdict};
 
-#[derive(Drop)]
+#[derive(Clone, Copy)]
 pub struct Limits {
     pub cycle: u8,
     pub chain: u8,
 }
 
-#[derive(Drop)]
+#[derive(Clone, Copy)]
 pub enum LimitsAnswer {
     Accepted(Limits),
     Refused(Refusal),

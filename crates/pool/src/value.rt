@@ -8,7 +8,7 @@ ghost use Rattle.pool.specs.Value.{graph_of, test_pool, pool_fits, arcs_fit, wee
 use crate::refusal::{Cause, Refusal, Verdict};
 use sets::VertexSet;
 
-#[derive(Drop)]
+#[derive(Clone, Copy)]
 pub struct Pool {
     // The places: vertices 0 to size - 1.
     pub size: u8,

@@ -3,7 +3,7 @@ ghost use Rattle.std.specs.Prelude.{◌≡◌, ◌+◌, ◌<◌, length};
 ghost use Rattle.reading.specs.Fields.{record_width, pair_at, taken_of, weeks_of, machine_of};
 
 // Where code needs a record's width, the most records of a pool or the first byte of a field, it goes by these names.
-#[derive(Drop)]
+#[derive(Clone, Copy)]
 pub struct PoolRecord {}
 
 impl PoolRecord {

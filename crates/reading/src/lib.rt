@@ -1,4 +1,6 @@
 // Layer one of document 01: records and arcs. Pool bytes become a pool value, or a refusal by number and spot.
+#![tactic(auto)]
+
 mod fields;
 mod pool_bytes;
 mod records;

@@ -11,7 +11,7 @@ use crate::waited::waited;
 use pool::{Cause, Pool, Refusal, Verdict};
 
 // The verdict, and beside it the pool that was read; the empty pool where it is refused.
-#[derive(Drop)]
+#[derive(Clone, Copy)]
 pub struct PoolAnswer {
     pub verdict: Verdict,
     pub pool: Pool,

@@ -10,7 +10,7 @@ use crate::fields::{PoolRecord, machine, taken, weeks};
 use pool::{Cause, Pool};
 
 // Whose a record is, or the cause that it meets.
-#[derive(Drop)]
+#[derive(Clone, Copy)]
 pub(crate) enum RecordRead {
     House,
     Member,
@@ -18,7 +18,7 @@ pub(crate) enum RecordRead {
 }
 
 // The number of houses, or the first refusal.
-#[derive(Drop)]
+#[derive(Clone, Copy)]
 pub(crate) enum Scan {
     Houses(u8),
     Refused(Cause, usize),

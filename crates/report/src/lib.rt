@@ -1,4 +1,6 @@
 // Layer four of document 01: the text that the workshop program prints, from the bytes of its two files.
+#![tactic(auto)]
+
 mod lines;
 mod numbers;
 mod reporting;

@@ -10,7 +10,7 @@ use clearing::{Cleared, clear_value};
 use pool::{Cause, Limits, Pool, Refusal, Verdict};
 use reading::{PoolRecord, read_pool};
 
-#[derive(Drop)]
+#[derive(Clone, Copy)]
 pub enum Reported {
     // How long the text is that stands at the front of the buffer.
     Length(usize),

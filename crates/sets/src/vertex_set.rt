@@ -3,7 +3,7 @@ ghost use Rattle.std.specs.Prelude.{◌≡◌};
 ghost use Rattle.kep.specs.Sets.{has as has_vertex, lowest_below, size_below, with_vertex, without_vertex};
 
 // The sum of 2 to the power v over the vertices v of the set.
-#[derive(Drop)]
+#[derive(Clone, Copy)]
 pub struct VertexSet(pub u16);
 
 impl VertexSet {

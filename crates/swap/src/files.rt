@@ -7,7 +7,7 @@ use libc::{EINTR, ENOENT};
 const TRIES: usize = 1000;
 
 // What was read of a file: so many bytes at the front of the buffer, and whether they are all that the file has or the buffer has room for. Where they are not, errno says why.
-#[derive(Drop)]
+#[derive(Clone, Copy)]
 pub(crate) struct Loaded {
     pub length: usize,
     pub whole: bool,

@@ -1,5 +1,7 @@
 // The workshop program of document 01: reads pool.bin and limits.bin from the current folder and prints what the report tells of them.
 // A plan must be made of whole files and be printed whole: for anything else it writes one line to standard error, and no more to standard output.
+#![tactic(auto)]
+
 mod files;
 
 use files::{load, write_whole};

@@ -1,7 +1,7 @@
 // What a filling call answers.
 use pool::Refusal;
 
-#[derive(Drop)]
+#[derive(Clone, Copy)]
 pub enum Filled {
     // The entries written: 2 to the power of the number of places.
     Entries(usize),

@@ -1,5 +1,7 @@
 // Layer two of document 01: set tables, but for filling the exchange table. The best table holds the most members, and
 // then weeks, that disjoint marked sets can hold; and what a filling call answers.
+#![tactic(auto)]
+
 mod best;
 mod filled;
 mod worths;
