@@ -11,6 +11,7 @@ use Rattle.pool.proofs.Tested.{passes, fails, not_both}
 
 -- by it the call refuses
 pub refuses : {A : Type 0} (ts : List (ℕ × Bool)) (at : ℕ) (rest : Outcome A) {n : ℕ} → FirstFails ts n → refused n at ≡ tested ts at rest
+refuses [] at rest f = elim f [ ]
 refuses ((n, b) ∷ ts) at rest (here f) = sym (fails n b ts at rest f)
 refuses ((k, b) ∷ ts) at rest (later h r) = refuses ts at rest r ∙ sym (passes k b ts at rest h)
 

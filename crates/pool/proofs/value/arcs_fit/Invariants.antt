@@ -1,13 +1,18 @@
-use Rattle.std.proofs.Common.{◌-◌, ◌&&◌, ◌≡◌, ◌≤◌, ◌<◌, ltb, leb, length, get_or, ℕ, ◌+◌, ◌*◌}
-use Rattle.kep.specs.Graph.{is_member}
-use Rattle.kep.specs.Sets.{has, set_where}
-use Rattle.pool.specs.Refusals.{outcome_of}
-use Rattle.pool.specs.Value.{graph_of, test_pool, pool_fits, arcs_fit, weeks_fit, empty_pool}
+use borrow.Author.Count.{below_none, below_more}
+use borrow.Author.Tests.{lt-ltb, le-ltb}
+use mathlib.Core.Path.{◌≡◌, ◌∙◌}
+use mathlib.Core.Logic.{⊎_elim}
+use Prim.Native.Nat.{ℕ, ◌≤◌, ◌<◌, ◌-◌, ◌^◌}
+use native.Mathlib.Omega.{arith}
+use lib.Dec.{T}
+use lib.ListN.{get_or}
+use Rattle.pool.specs.Value.{takers_fit, arcs_fit}
+use Rattle.pool.proofs.ValueLaws.{takers_allowed, takers_pass, takers_fail}
+use Rattle.kep.proofs.ListLaws.{none_fails, one_fails}
 use Rattle.pool.proofs.value.arcs_fit.Given as goal
 
 abbrev pub invariant-loop-u : goal.invariant-loop-u
-invariant-loop-u l = ?
+invariant-loop-u l = (l.u ≤ 14) × ((k : ℕ) → k < l.u → T (takers_fit l.size l.altruists l.gives k))
 
--- proposed from the loop's first test
 abbrev pub decreases-loop-u : goal.decreases-loop-u
 decreases-loop-u l = 14 - l.u

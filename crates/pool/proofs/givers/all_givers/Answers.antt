@@ -1,0 +1,22 @@
+use borrow.Author.Rules.{rules}
+use mathlib.Core.List.{append-nil}
+use mathlib.Core.Path.{◌≡◌, ◌∙◌}
+use Prim.Native.Nat.{◌≤◌, ◌-◌}
+use native.Mathlib.Omega.{arith}
+use lib.ListN.{length}
+use Rattle.kep.specs.Lists.{tabulate, written_to}
+use Rattle.pool.specs.Value.{graph_of}
+use Rattle.kep.specs.Graph.{givers}
+use Rattle.kep.proofs.Tables.{tabulate_more}
+use Rattle.pool.proofs.givers.all_givers.Goals as goal
+
+pub loop-v-init : goal.loop-v-init
+unfolding tabulate
+loop-v-init c = search rules
+
+pub loop-v-preserved : goal.loop-v-preserved
+loop-v-preserved c =
+    (search rules, search rules, rw (c.loop-v.invariant.2, c.givers_of-givers.ensures) (tabulate_more _ c.loop-v.v _ (omega arith)))
+
+pub returns : goal.returns
+returns c = let done : c.loop-v.v ≡ 14 = omega arith in rw done at c.loop-v.invariant.2 ∙ append-nil _
