@@ -1,12 +1,8 @@
 use borrow.Author.Rules.{rules}
 use mathlib.Core.List.{append-nil}
 use mathlib.Core.Path.{◌≡◌, ◌∙◌}
-use Prim.Native.Nat.{◌≤◌, ◌-◌}
 use native.Mathlib.Omega.{arith}
-use lib.ListN.{length}
-use Rattle.kep.specs.Lists.{tabulate, written_to}
-use Rattle.pool.specs.Value.{graph_of}
-use Rattle.kep.specs.Graph.{givers}
+use Rattle.kep.specs.Lists.{tabulate}
 use Rattle.kep.proofs.Tables.{tabulate_more}
 use Rattle.pool.proofs.givers.all_givers.Goals as goal
 

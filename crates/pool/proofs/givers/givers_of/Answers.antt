@@ -1,13 +1,9 @@
 use borrow.Author.Rules.{rules}
-use mathlib.Core.Bool.{◌&&◌, Bool}
-use mathlib.Core.List.{List}
-use mathlib.Core.Logic.{⊎_elim}
+use mathlib.Core.Bool.{Bool}
 use mathlib.Core.Path.{◌≡◌, refl, ap, ◌∙◌}
-use Prim.Native.Nat.{ℕ, ◌≤◌, ◌-◌}
+use Prim.Native.Nat.{ℕ}
 use native.Mathlib.Omega.{arith}
-use lib.Dec.{ltb}
-use lib.ListN.{get_or, length}
-use Rattle.kep.specs.Sets.{has, set_where}
+use Rattle.kep.specs.Sets.{set_where}
 use Rattle.sets.specs.declared.vertex_set.VertexSet.{VertexSet}
 use Rattle.kep.proofs.SetLoops.{made_with, made_without}
 use Rattle.pool.proofs.ValueLaws.{givers_found}

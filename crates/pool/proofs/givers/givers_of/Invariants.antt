@@ -1,15 +1,10 @@
 use mathlib.Core.Bool.{◌&&◌, Bool}
 use mathlib.Core.List.{List}
-use mathlib.Core.Logic.{⊎_elim}
-use mathlib.Core.Path.{◌≡◌, refl, ap, ◌∙◌}
+use mathlib.Core.Path.{◌≡◌}
 use Prim.Native.Nat.{ℕ, ◌≤◌, ◌-◌}
-use native.Mathlib.Omega.{arith}
 use lib.Dec.{ltb}
 use lib.ListN.{get_or, length}
 use Rattle.kep.specs.Sets.{has, set_where}
-use Rattle.sets.specs.declared.vertex_set.VertexSet.{VertexSet}
-use Rattle.kep.proofs.SetLoops.{made_with, made_without}
-use Rattle.pool.proofs.ValueLaws.{givers_found}
 use Rattle.pool.proofs.givers.givers_of.Given as goal
 
 -- does u give to v?

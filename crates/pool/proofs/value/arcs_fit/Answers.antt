@@ -5,10 +5,9 @@ use mathlib.Core.Path.{◌≡◌, ◌∙◌}
 use mathlib.Core.Logic.{◌⊎◌, inl, inr}
 use mathlib.Core.Bool.{◌&&◌}
 use Rattle.kep.specs.Sets.{set_where}
-use Prim.Native.Nat.{ℕ, ◌≤◌, ◌<◌, ◌-◌, ◌^◌}
+use Prim.Native.Nat.{ℕ, ◌≤◌, ◌<◌}
 use native.Mathlib.Omega.{arith}
-use lib.Dec.{T, leb, ltb}
-use lib.ListN.{get_or}
+use lib.Dec.{leb, ltb}
 use Rattle.pool.specs.Value.{takers_fit, arcs_fit}
 use Rattle.pool.proofs.ValueLaws.{takers_allowed, takers_pass, takers_fail}
 use Rattle.kep.proofs.ListLaws.{none_fails, one_fails}
@@ -39,8 +38,8 @@ loop-u-preserved c =
       search rules,
       below_more _ _ c.loop-u.invariant.1
           (takers_pass c.args.size c.args.altruists c.args.gives.now u (c.type_inv.gives u).fits
-    (allowed_is c.args.size c.args.altruists u c.between-members.ensures (elim c.if-u-places.branch [ then-u-places w ↦ inl (w.if-u-places.true, w.allowed-is) | else-u-places w ↦ inr (w.if-u-places.false, w.allowed-is) ]))
-    c.if-takers-allowed.false),
+          (allowed_is c.args.size c.args.altruists u c.between-members.ensures (elim c.if-u-places.branch [ then-u-places w ↦ inl (w.if-u-places.true, w.allowed-is) | else-u-places w ↦ inr (w.if-u-places.false, w.allowed-is) ]))
+          c.if-takers-allowed.false),
     )
 
 pub returns : goal.returns

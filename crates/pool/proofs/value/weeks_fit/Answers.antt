@@ -1,15 +1,12 @@
 use borrow.Author.Rules.{rules}
 use borrow.Author.Count.{below_none, below_more}
 use borrow.Author.Tests.{lt-ltb, le-ltb}
-use mathlib.Core.Bool.{Bool}
-use mathlib.Core.List.{List}
 use mathlib.Core.Path.{◌≡◌}
 use mathlib.Core.Logic.{◌⊎◌, inl, inr}
-use Prim.Native.Nat.{ℕ, ◌≤◌, ◌<◌, ◌-◌}
+use Prim.Native.Nat.{ℕ, ◌≤◌, ◌<◌}
 use native.Mathlib.Omega.{arith}
-use lib.Dec.{T, ltb, leb, leb→le, le→leb}
+use lib.Dec.{leb→le, le→leb}
 use lib.ListN.{get_or}
-use Rattle.kep.specs.Sets.{counted}
 use Rattle.kep.proofs.ListLaws.{none_fails, one_fails}
 use Rattle.pool.specs.Value.{most_weeks_waited, weeks_fit}
 use Rattle.pool.proofs.value.weeks_fit.Invariants.{allowed, fits}

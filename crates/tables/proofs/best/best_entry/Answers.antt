@@ -1,10 +1,8 @@
-use mathlib.Core.Logic.{⊎_elim}
 use native.Mathlib.Omega.{arith}
-use mir.Facts.{Fits-32_64}
 use Rattle.kep.proofs.Parts.{part_le}
 use Rattle.kep.proofs.Down.{step_below}
-use Rattle.kep.specs.inner.BestFilling.{looked, next_best}
-use Rattle.kep.proofs.BestFilling.{Trying, trying_start, trying_next, trying_done}
+use Rattle.kep.specs.inner.BestFilling.{next_best}
+use Rattle.kep.proofs.BestFilling.{trying_start, trying_next, trying_done}
 use Rattle.tables.proofs.BestCode.{sum_fits}
 use Rattle.tables.proofs.best.best_entry.Goals.{else-found-sum, then-found-sum}
 use Rattle.tables.proofs.best.best_entry.Goals as goal
@@ -21,17 +19,11 @@ offset_bounds-offers-t c = omega (arith, part_le c.loop-t.invariant.inside)
 pub bounds-offers-t : goal.bounds-offers-t
 bounds-offers-t c = omega (arith, part_le c.loop-t.invariant.inside)
 
-pub ??cast-sum : goal.??cast-sum
-??cast-sum c = Fits-32_64 (c.type_inv.offers _)
-
 pub offset_bounds-table-rest : goal.offset_bounds-table-rest
 offset_bounds-table-rest c = omega arith
 
 pub bounds-table-rest : goal.bounds-table-rest
 bounds-table-rest c = omega arith
-
-pub ??cast-sum-2 : goal.??cast-sum-2
-??cast-sum-2 c = Fits-32_64 (c.type_inv.table _)
 
 pub overflow_add-sum : goal.overflow_add-sum
 overflow_add-sum c = sum_fits (c.type_inv.offers _) (c.type_inv.table _)

@@ -1,11 +1,5 @@
-use mathlib.Core.Logic.{⊎_elim}
-use native.Mathlib.Omega.{arith}
-use mir.Facts.{Fits-32_64}
-use Rattle.kep.proofs.Parts.{part_le}
-use Rattle.kep.proofs.Down.{step_below}
-use Rattle.kep.specs.inner.BestFilling.{looked, next_best}
-use Rattle.kep.proofs.BestFilling.{Trying, trying_start, trying_next, trying_done}
-use Rattle.tables.proofs.BestCode.{sum_fits}
+use Rattle.kep.specs.inner.BestFilling.{looked}
+use Rattle.kep.proofs.BestFilling.{Trying}
 use Rattle.tables.proofs.best.best_entry.Given as goal
 
 -- the parts from t down are left to try

@@ -10,36 +10,43 @@ use Rattle.tables.proofs.BestCall.{pool_refused, exchanges_short, table_short, f
 use Rattle.tables.proofs.best.fill_best.Goals as goal
 
 pub returns-in-Refused : goal.returns-in-Refused
-returns-in-Refused c = pool_refused _ _ _ (outcome_refused _ c.in-Refused.is c.test-verdict.ensures)
-
--- ?? helper
--- past its test the pool fits
-module _ (c : goal.After-enum-told) where
-  pool : Pool
-  pool = c.args.pool
-
-  fits : T (pool_fits pool)
-  unfolding pool
-  fits = fitting_pool (outcome_accepted c.enum_told-1.given.1 c.test-verdict.ensures)
+returns-in-Refused c =
+    let told = pool_refused c.args.pool c.args.exchanges.now c.args.table.now (outcome_refused c.args.pool c.in-Refused.is c.test-verdict.ensures) in
+    record { outcome = told.0; left = told.1 }
 
 pub overflow_shl-entries : goal.overflow_shl-entries
-unfolding pool
-overflow_shl-entries c = omega (arith, fits_size (pool c) (fits c))
+overflow_shl-entries c =
+    let pool : Pool = c.args.pool in
+    let fits : T (pool_fits pool) = fitting_pool (outcome_accepted c.in_default.is c.test-verdict.ensures) in
+    omega (arith, fits_size pool fits)
 
 pub returns-then-exchanges-entries : goal.returns-then-exchanges-entries
-unfolding pool
-returns-then-exchanges-entries c = exchanges_short (pool c) _ _ (fits c) (omega (arith, entries_are (pool c) (fits c)))
+returns-then-exchanges-entries c =
+    let pool : Pool = c.args.pool in
+    let fits : T (pool_fits pool) = fitting_pool (outcome_accepted c.in_default.is c.test-verdict.ensures) in
+    let told = exchanges_short pool c.args.exchanges.now c.args.table.now fits (omega (arith, entries_are pool fits)) in
+    record { outcome = told.0; left = told.1 }
 
 pub returns-then-table-entries : goal.returns-then-table-entries
-unfolding pool
-returns-then-table-entries c = table_short (pool c) _ _ (fits c) (omega (arith, entries_are (pool c) (fits c))) (omega (arith, entries_are (pool c) (fits c)))
+returns-then-table-entries c =
+    let pool : Pool = c.args.pool in
+    let fits : T (pool_fits pool) = fitting_pool (outcome_accepted c.in_default.is c.test-verdict.ensures) in
+    let told = table_short pool c.args.exchanges.now c.args.table.now fits (omega (arith, entries_are pool fits)) (omega (arith, entries_are pool fits)) in
+    record { outcome = told.0; left = told.1 }
 
 pub fill_by-requires : goal.fill_by-requires
-unfolding pool
 fill_by-requires c =
-    (rw c.vertex_worths-worths.ensures (worths_are (pool c) (fits c)), (omega (arith, entries_are (pool c) (fits c)), omega (arith, entries_are (pool c) (fits c))))
+    let pool : Pool = c.args.pool in
+    let fits : T (pool_fits pool) = fitting_pool (outcome_accepted c.in_default.is c.test-verdict.ensures) in
+    record {
+      worths = rw c.vertex_worths-worths.ensures (worths_are pool fits);
+      size_in_bounds = omega (arith, entries_are pool fits);
+      size_in_bounds_2 = omega (arith, entries_are pool fits);
+    }
 
 pub returns : goal.returns
-unfolding pool
 returns c =
-    filled (pool c) _ _ (fits c) (omega (arith, entries_are (pool c) (fits c))) (omega (arith, entries_are (pool c) (fits c))) (entries_are (pool c) (fits c)) c.vertex_worths-worths.ensures c.fill_by.ensures
+    let pool : Pool = c.args.pool in
+    let fits : T (pool_fits pool) = fitting_pool (outcome_accepted c.in_default.is c.test-verdict.ensures) in
+    let told = filled pool c.args.exchanges.now c.args.table.now fits (omega (arith, entries_are pool fits)) (omega (arith, entries_are pool fits)) (entries_are pool fits) c.vertex_worths-worths.ensures c.fill_by.ensures in
+    record { outcome = told.0; left = told.1 }

@@ -1,9 +1,7 @@
 use borrow.Author.Rules.{rules}
 use mathlib.Core.Path.{◌≡◌, ◌∙◌}
-use Prim.Native.Nat.{◌-◌, ◌≤◌}
 use native.Mathlib.Omega.{arith}
-use lib.ListN.{length}
-use Rattle.kep.specs.Lists.{tabulate, written_to}
+use Rattle.kep.specs.Lists.{tabulate}
 use Rattle.kep.specs.inner.BestFilling.{best_offered}
 use Rattle.kep.proofs.Tables.{tabulate_more}
 use Rattle.kep.proofs.BestFilling.{next_best_lem}
@@ -13,19 +11,16 @@ pub loop-s-init : goal.loop-s-init
 unfolding tabulate
 loop-s-init c = search rules
 
--- ?? helper
--- what was found is entry s
-entry_is :
-    (c : goal.After-best-entry) → c.best_entry.result ≡ best_offered c.args.offers.now c.loop-s.s
-entry_is c = c.best_entry.ensures ∙ next_best_lem c.loop-s.s c.args.offers.now _ c.loop-s.invariant.2
-
 pub overflow_cast-table : goal.overflow_cast-table
-overflow_cast-table c = omega (arith, entry_is c, c.requires.by_index c.loop-s.s (omega arith))
+overflow_cast-table c =
+    let entry_is : c.best_entry.result ≡ best_offered c.args.offers.now c.loop-s.s = c.best_entry.ensures ∙ next_best_lem c.loop-s.s c.args.offers.now _ c.loop-s.invariant.2 in
+    omega (arith, entry_is, c.requires.by_index c.loop-s.s (omega arith))
 
 pub loop-s-preserved : goal.loop-s-preserved
 loop-s-preserved c =
+    let entry_is : c.best_entry.result ≡ best_offered c.args.offers.now c.loop-s.s = c.best_entry.ensures ∙ next_best_lem c.loop-s.s c.args.offers.now _ c.loop-s.invariant.2 in
     let a = c.args in
-    (search rules, search rules, rw (c.loop-s.invariant.2, entry_is c) (tabulate_more (best_offered a.offers.now) c.loop-s.s a.table.now (omega arith)))
+    (search rules, search rules, rw (c.loop-s.invariant.2, entry_is) (tabulate_more (best_offered a.offers.now) c.loop-s.s a.table.now (omega arith)))
 
 pub returns : goal.returns
 returns c =

@@ -1,11 +1,8 @@
-use mathlib.Core.Path.{◌≡◌, ◌∙◌}
+use mathlib.Core.Path.{◌≡◌}
 use Prim.Native.Nat.{◌-◌, ◌≤◌}
-use native.Mathlib.Omega.{arith}
 use lib.ListN.{length}
-use Rattle.kep.specs.Lists.{tabulate, written_to}
+use Rattle.kep.specs.Lists.{written_to}
 use Rattle.kep.specs.inner.BestFilling.{best_offered}
-use Rattle.kep.proofs.Tables.{tabulate_more}
-use Rattle.kep.proofs.BestFilling.{next_best_lem}
 use Rattle.tables.proofs.best.fill_entries.Given as goal
 
 -- the entries of the sets below s are written

@@ -1,14 +1,10 @@
 use mathlib.Core.List.{List}
-use mathlib.Core.Logic.{⊎_elim}
 use mathlib.Core.Path.{◌≡◌}
 use Prim.Native.Nat.{ℕ, ◌-◌, ◌≤◌}
-use native.Mathlib.Omega.{arith}
 use lib.ListN.{length, get_or}
-use Rattle.kep.specs.Lists.{tabulate, written_to}
-use Rattle.kep.proofs.Tables.{tabulate_more}
+use Rattle.kep.specs.Lists.{written_to}
 use Rattle.tables.specs.Calls.{marked}
 use Rattle.kep.specs.inner.BestFilling.{offer}
-use Rattle.tables.proofs.BestCode.{offer_none, offer_worth}
 use Rattle.tables.proofs.best.fill_offers.Given as goal
 
 abbrev pub offer_of : List ℕ → List ℕ → ℕ → ℕ

@@ -1,17 +1,8 @@
-use mathlib.Core.List.{List, ◌++◌}
-use mathlib.Core.Path.{◌≡◌, ap, ◌∙◌}
-use Prim.Native.Nat.{ℕ, ◌+◌, ◌-◌, ◌*◌, ◌%◌, ◌^◌, ◌≤◌, ◌<◌}
-use native.Mathlib.Omega.{arith}
-use lib.Bits.{bit_and, and_le_r}
-use lib.Count.{count_trailing_zeros}
-use lib.ListN.{length, get_or, length-set}
-use lib.Pow.{pow_pos}
-use lib.Seq.{drop-set-lt}
-use Rattle.kep.specs.Lists.{tabulate, written_to}
+use mathlib.Core.Path.{◌≡◌}
+use Prim.Native.Nat.{◌-◌, ◌^◌, ◌≤◌}
+use lib.ListN.{length}
+use Rattle.kep.specs.Lists.{written_to}
 use Rattle.kep.specs.inner.BestFilling.{worth_by}
-use Rattle.kep.proofs.Operations.{one_shl}
-use Rattle.kep.proofs.Tables.{tabulate_store}
-use Rattle.tables.proofs.BestCode.{worth_first, worth_fits, trailing_lt, worth_next}
 use Rattle.tables.proofs.worths.fill_worths.Given as goal
 
 -- the worths of the sets below s are written

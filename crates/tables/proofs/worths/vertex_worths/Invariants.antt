@@ -1,16 +1,12 @@
 use mathlib.Core.Bool.{◌&&◌}
-use mathlib.Core.List.{List, append-nil}
-use mathlib.Core.Logic.{⊎_elim}
-use mathlib.Core.Path.{◌≡◌, ◌∙◌}
+use mathlib.Core.List.{List}
+use mathlib.Core.Path.{◌≡◌}
 use Prim.Native.Nat.{ℕ, ◌+◌, ◌-◌, ◌≤◌}
-use native.Mathlib.Omega.{arith}
 use lib.Dec.{leb, ltb}
 use lib.ListN.{length, get_or}
-use Rattle.kep.specs.Lists.{tabulate, written_to}
+use Rattle.kep.specs.Lists.{written_to}
 use Rattle.kep.specs.Sets.{counted}
 use Rattle.kep.specs.Table.{per_member}
-use Rattle.kep.proofs.Tables.{tabulate_store}
-use Rattle.tables.specs.Calls.{worth_in}
 use Rattle.tables.proofs.worths.vertex_worths.Given as goal
 
 -- `worth_in` of a pool's parts
