@@ -1,0 +1,12 @@
+use mathlib.Core.Path.{◌≡◌}
+use Prim.Native.Nat.{◌+◌, ◌-◌}
+use lib.Count.{ones}
+use Rattle.kep.proofs.Sifting.{Sifting}
+use Rattle.exchanges.proofs.Looking.{is_open}
+use Rattle.exchanges.proofs.path_ends.path_ends.Given as goal
+
+abbrev pub invariant-loop-left : goal.invariant-loop-left
+invariant-loop-left l = Sifting 64 (is_open l.givers l.table l.set) (l.set - l.first) l.left l.ends × (l.size + ones l.left ≡ ones l.set)
+
+abbrev pub decreases-loop-left : goal.decreases-loop-left
+decreases-loop-left l = l.left
