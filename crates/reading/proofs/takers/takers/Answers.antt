@@ -1,11 +1,8 @@
 use borrow.Author.Rules.{rules}
-use mathlib.Core.List.{◌++◌}
-use mathlib.Core.Path.{◌≡◌, refl}
-use Prim.Native.Nat.{◌≤◌, ◌-◌, ◌/◌}
+use mathlib.Core.Path.{refl}
 use native.Mathlib.Omega.{arith}
-use lib.ListN.{length, drop}
 use Rattle.kep.specs.Lists.{tabulate}
-use Rattle.reading.specs.Fields.{record_width, pool_records}
+use Rattle.reading.specs.Fields.{pool_records}
 use Rattle.reading.specs.computed.Pool.{takers_of}
 use Rattle.kep.proofs.Tables.{tabulate_store}
 use Rattle.reading.proofs.Arcs.{places_filled}

@@ -1,12 +1,9 @@
-use mathlib.Core.Logic.{⊎_elim}
-use mathlib.Core.Path.{◌≡◌, refl, ap, ◌∙◌}
+use mathlib.Core.Path.{◌≡◌}
 use Prim.Native.Nat.{◌≤◌, ◌-◌, ◌/◌}
-use native.Mathlib.Omega.{arith}
 use lib.ListN.{length}
-use Rattle.sets.specs.declared.vertex_set.VertexSet.{VertexSet}
 use Rattle.kep.specs.Sets.{set_where}
 use Rattle.reading.specs.Fields.{record_width}
-use Rattle.reading.proofs.Arcs.{takes, takers_add, takers_skip, takers_done}
+use Rattle.reading.proofs.Arcs.{takes}
 use Rattle.reading.proofs.takers.takers_of.Given as goal
 
 abbrev pub invariant-loop-v : goal.invariant-loop-v

@@ -1,9 +1,8 @@
 use borrow.Author.Rules.{rules}
-use mathlib.Core.List.{◌++◌}
-use mathlib.Core.Path.{◌≡◌, refl, ap, ◌∙◌}
-use Prim.Native.Nat.{◌≤◌, ◌-◌, ◌/◌}
+use mathlib.Core.Path.{refl, ap, ◌∙◌}
+use Prim.Native.Nat.{◌/◌}
 use native.Mathlib.Omega.{arith}
-use lib.ListN.{length, drop}
+use lib.ListN.{length}
 use Rattle.kep.specs.Lists.{tabulate}
 use Rattle.reading.specs.Fields.{record_width, pool_records, weeks_of}
 use Rattle.reading.specs.computed.Pool.{weeks_at}
@@ -15,9 +14,6 @@ use Rattle.reading.proofs.waited.waited.Goals as goal
 pub loop-u-init : goal.loop-u-init
 unfolding tabulate
 loop-u-init c = (search rules, refl)
-
-pub weeks-requires : goal.weeks-requires
-weeks-requires c = omega (arith, c.weeks-arg-1.given.2)
 
 pub loop-u-preserved : goal.loop-u-preserved
 loop-u-preserved c =

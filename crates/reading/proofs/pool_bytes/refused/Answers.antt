@@ -1,4 +1,0 @@
-use Rattle.reading.proofs.pool_bytes.refused.Goals as goal
-
-pub returns : goal.returns
-returns c = rw c.empty.ensures
