@@ -81,6 +81,7 @@ fn read_record(bytes: &[u8], houses_only: bool) -> RecordRead
 }
 
 // The tests of a record of known kind in their order: the first that failed decides.
+#[tactic(auto, unfolding(pool::specs::Refusals::tested))]
 fn first_failed(
     house: bool,
     class: bool,
