@@ -24,7 +24,7 @@ use Rattle.pool.specs.Causes.{Pass, FirstMet}
 use Rattle.pool.proofs.Causes.{in_turn, accepted_by, then_refused, then_accepted, met_refused, met_accepted}
 use Rattle.pool.proofs.ValueLaws.{fits_size}
 use Rattle.reading.proofs.ReadPool.{read_fits, read_formed}
-use Rattle.plans.proofs.Checked.{accepted_legal, legal_accepted, legal_listed, legal_counts}
+use Rattle.plans.proofs.PlanChecked.{accepted_legal, legal_accepted, legal_listed, legal_counts}
 
 -- the exchanges of a pool that was read fit into records
 pub read_fit_records : (bytes : List ℕ) {p : Pool} → read_pool bytes ≡ accepted p → (lc lp : ℕ) → FitRecords (graph_of p) lc lp

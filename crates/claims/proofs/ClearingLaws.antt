@@ -30,7 +30,7 @@ use Rattle.pool.specs.Causes.{Pass, FirstFails}
 use Rattle.pool.proofs.Causes.{same_given, alone_refused, alone_accepted, then_refused, then_accepted}
 use Rattle.pool.proofs.ValueLaws.{fits_size, few_weeks}
 use Rattle.reading.proofs.ReadPool.{read_fits}
-use Rattle.plans.proofs.Checked.{legal_listed, legal_counts}
+use Rattle.plans.proofs.PlanChecked.{legal_listed, legal_counts}
 use Rattle.clearing.proofs.ChoosingCode.{form_length}
 use Rattle.clearing.proofs.ClearingCode.{Passed, passed}
 use Rattle.clearing.proofs.FilledTables.{bests_agree, last_served}

@@ -39,7 +39,7 @@ use Rattle.reading.proofs.ReadPool.{read_fits}
 use Rattle.reading.proofs.Houses.{read_members_count}
 use Rattle.plans.proofs.Records.{record_kind_lem}
 use Rattle.plans.proofs.CheckRecord.{exchange_back}
-use Rattle.plans.proofs.Checked.{form_records}
+use Rattle.plans.proofs.PlanChecked.{form_records}
 use Rattle.report.proofs.Decimal.{decimal_one, decimal_more}
 use Rattle.claims.proofs.Problem.{answer_is_optimum}
 use Rattle.claims.proofs.CheckerLaws.{read_fit_records}

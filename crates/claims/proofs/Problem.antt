@@ -29,7 +29,7 @@ use Rattle.kep.proofs.OneForm.{retold_legal, one_form, one_total}
 use Rattle.kep.specs.Retold.{Retold}
 use Rattle.kep.proofs.Retelling.{same_order_retold}
 use Rattle.kep.proofs.FormStarts.{no_start}
-use Rattle.plans.proofs.Checked.{accepted_legal, legal_accepted, form_determines, refused_none, none_refused}
+use Rattle.plans.proofs.PlanChecked.{accepted_legal, legal_accepted, form_determines, refused_none, none_refused}
 
 module _ (g : Graph) (lc lp : ℕ) where
   -- ---- the exchange table

@@ -29,7 +29,7 @@ use Rattle.kep.proofs.SetOf.{has_set_of, set_of_snoc}
 use Rattle.kep.proofs.Worth.{counted_le, total_append, list_worth, worth_le}
 use Rattle.plans.proofs.CheckRecord.{no_cause_passes}
 use Rattle.plans.proofs.CheckPlan.{check_next, check_stop, check_end}
-use Rattle.plans.proofs.Checked.{check_whole}
+use Rattle.plans.proofs.PlanChecked.{check_whole}
 
 -- ---- the vertices met
 

@@ -4,7 +4,7 @@ pub mod RecordLaws
 pub mod Records
 pub mod CheckRecord
 pub mod CheckPlan
-pub mod Checked
+pub mod PlanChecked
 pub mod CheckSteps
 pub mod Meeting
 pub mod RecordVertices

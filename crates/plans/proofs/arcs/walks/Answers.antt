@@ -1,37 +1,24 @@
-use borrow.Author.Tests.{not-true, not-false}
-use mathlib.Core.Path.{◌≡◌, refl, sym, ◌∙◌}
-use Prim.Native.Nat.{◌≤◌, ◌-◌}
+use mathlib.Core.Path.{refl, sym, ◌∙◌}
 use native.Mathlib.Omega.{arith}
-use lib.ListN.{length, drop}
 use Rattle.pool.specs.Value.{graph_of}
-use Rattle.kep.specs.Exchange.{walk}
 use Rattle.plans.proofs.CheckArcs.{walk_next, walk_stop, walk_end}
 use Rattle.plans.proofs.arcs.walks.Goals as goal
 
 pub loop-i-init : goal.loop-i-init
 loop-i-init c = (omega arith, refl)
 
-pub bounds-vertices-i : goal.bounds-vertices-i
-bounds-vertices-i c = omega arith
-
 pub returns-then-not-arc : goal.returns-then-not-arc
 returns-then-not-arc c =
     let a = c.args in
     walk_stop (graph_of a.pool) c.loop-i.giver a.vertices.now c.loop-i.invariant.1 c.loop-i-test.true
-    (sym c.arc.ensures ∙ not-true _ c.if-not-arc.true)
-
-pub overflow_add-i : goal.overflow_add-i
-overflow_add-i c = omega arith
-
-pub loop-i-smaller : goal.loop-i-smaller
-loop-i-smaller c = omega arith
+    (sym c.arc.ensures ∙ c.if-not-arc.true)
 
 pub loop-i-preserved : goal.loop-i-preserved
 loop-i-preserved c =
     let a = c.args in (
       omega arith,
       walk_next (graph_of a.pool) c.loop-i.giver a.vertices.now c.loop-i.invariant.1 c.loop-i-test.true
-          (sym c.arc.ensures ∙ not-false _ c.if-not-arc.false),
+          (sym c.arc.ensures ∙ c.if-not-arc.false),
     )
 
 pub returns : goal.returns

@@ -1,11 +1,8 @@
-use borrow.Author.Tests.{not-true, not-false}
-use mathlib.Core.Path.{◌≡◌, refl, sym, ◌∙◌}
+use mathlib.Core.Path.{◌≡◌}
 use Prim.Native.Nat.{◌≤◌, ◌-◌}
-use native.Mathlib.Omega.{arith}
 use lib.ListN.{length, drop}
 use Rattle.pool.specs.Value.{graph_of}
 use Rattle.kep.specs.Exchange.{walk}
-use Rattle.plans.proofs.CheckArcs.{walk_next, walk_stop, walk_end}
 use Rattle.plans.proofs.arcs.walks.Given as goal
 
 abbrev pub invariant-loop-i : goal.invariant-loop-i

@@ -23,4 +23,8 @@ slice_bounds-check_listed-end c =
 
 pub check_listed-requires : goal.check_listed-requires
 check_listed-requires c =
-    (c.requires.t, (c.requires.served_bound, listed_part c.args.pool c.args.bytes.now c.requires.bytes_len c.count_listed-count.ensures c.if-count-eq0.false))
+    record {
+      t = c.requires.t;
+      served_bound = c.requires.served_bound;
+      listed = listed_part c.args.pool c.args.bytes.now c.requires.bytes_len c.count_listed-count.ensures c.if-count-eq0.false;
+    }

@@ -1,12 +1,10 @@
 use mathlib.Core.Path.{sym, ◌∙◌, ap}
-use Prim.Native.Nat.{◌≤◌, ◌-◌}
 use native.Mathlib.Omega.{arith}
 use lib.ListN.{length}
-use Rattle.pool.specs.Value.{graph_of}
 use Rattle.pool.proofs.ValueLaws.{fits_size}
 use Rattle.kep.proofs.Cut.{part, part_length}
-use Rattle.plans.proofs.Checked.{check_length}
-use Rattle.plans.proofs.CheckSteps.{Checking, checking_start, checking_end, checking_most}
+use Rattle.plans.proofs.PlanChecked.{check_length}
+use Rattle.plans.proofs.CheckSteps.{checking_start, checking_end, checking_most}
 use Rattle.plans.proofs.CheckLoop.{turn_stop, turn_next}
 use Rattle.plans.proofs.checker.check_records.Goals as goal
 
@@ -16,42 +14,23 @@ returns-then-plan-ne0 c = sym (check_length _ _ _ c.args.plan.now c.if-plan-ne0.
 pub loop-k-init : goal.loop-k-init
 loop-k-init c = (omega arith, checking_start _ _ _ c.args.plan.now c.if-plan-ne0.false)
 
-pub overflow_mul-at : goal.overflow_mul-at
-overflow_mul-at c = omega arith
-
-pub overflow_add-at : goal.overflow_add-at
-overflow_add-at c = omega arith
-
-pub slice_bounds-check_record-count : goal.slice_bounds-check_record-count
-slice_bounds-check_record-count c = omega arith
-
-pub slice_bounds-check_record-start : goal.slice_bounds-check_record-start
-slice_bounds-check_record-start c = omega arith
-
-pub slice_bounds-check_record-end : goal.slice_bounds-check_record-end
-slice_bounds-check_record-end c = omega arith
-
 pub check_record-answer-requires : goal.check_record-answer-requires
 check_record-answer-requires c =
     let plan = c.args.plan.now in
-    let most = checking_most _ _ _ plan c.loop-k.invariant.1 in (
-      c.requires,
-      (omega (arith, most, fits_size c.args.pool c.requires), ap length (part 16 c.loop-k.k plan) ∙ part_length 16 c.loop-k.k plan (omega arith)),
-    )
+    let most = checking_most _ _ _ plan c.loop-k.invariant.1 in
+    record {
+      t = c.requires;
+      served_bound = omega (arith, most, fits_size c.args.pool c.requires);
+      bytes_len = ap length (part 16 c.loop-k.k plan) ∙ part_length 16 c.loop-k.k plan (omega arith);
+    }
 
 pub returns-in-Refused : goal.returns-in-Refused
 returns-in-Refused c =
     turn_stop c.loop-k.invariant.1 c.loop-k-test.true c.check_record-answer.ensures c.in-Refused.is
 
-pub overflow_add-k : goal.overflow_add-k
-overflow_add-k c = omega arith
-
-pub loop-k-smaller : goal.loop-k-smaller
-loop-k-smaller c = omega arith
-
 pub loop-k-preserved : goal.loop-k-preserved
 loop-k-preserved c =
-    (omega arith, turn_next c.loop-k.invariant.1 c.loop-k-test.true c.check_record-answer.ensures c.answer-1.given.1)
+    (omega arith, turn_next c.loop-k.invariant.1 c.loop-k-test.true c.check_record-answer.ensures c.in-Accepted.is)
 
 pub returns : goal.returns
 returns c = sym (checking_end _ _ _ _ c.loop-k.invariant.1 c.loop-k-test.false)

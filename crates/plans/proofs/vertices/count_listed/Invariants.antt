@@ -1,9 +1,5 @@
-use mathlib.Core.Path.{◌≡◌}
-use mathlib.Core.Logic.{⊎_elim}
 use Prim.Native.Nat.{◌-◌}
-use native.Mathlib.Omega.{arith}
-use lib.ListN.{take}
-use Rattle.plans.proofs.RecordVertices.{lead, Counted, counted_start, counted_next, counted_stop, counted_end, Filled, filled_start, filled_next, filled_stop, filled_end, count_none, count_all}
+use Rattle.plans.proofs.RecordVertices.{Counted, Filled}
 use Rattle.plans.proofs.vertices.count_listed.Given as goal
 
 abbrev pub invariant-loop-count : goal.invariant-loop-count

@@ -1,27 +1,18 @@
 use mathlib.Core.Path.{sym, ◌∙◌}
-use Prim.Native.Nat.{◌<◌, ◌-◌}
+use Prim.Native.Nat.{◌<◌}
 use native.Mathlib.Omega.{arith}
-use lib.ListN.{length, get_or}
+use lib.ListN.{get_or}
 use Rattle.kep.proofs.Rest.{each_here}
 use Rattle.kep.proofs.Tests.{from_true, from_false}
-use Rattle.plans.proofs.Meeting.{Meeting, meeting_start, meeting_stop, meeting_next, meeting_end}
+use Rattle.plans.proofs.Meeting.{meeting_start, meeting_stop, meeting_next, meeting_end}
 use Rattle.plans.proofs.vertices.meet.Goals as goal
 
 pub loop-i-init : goal.loop-i-init
 loop-i-init c = meeting_start c.args.vertices.now c.args.met.0 (omega arith)
 
-pub bounds-vertices-i : goal.bounds-vertices-i
-bounds-vertices-i c = omega arith
-
 pub returns-then-has : goal.returns-then-has
 returns-then-has c =
     meeting_stop c.loop-i.invariant c.loop-i-test.true (from_true (sym c.has.ensures ∙ c.if-has.true))
-
-pub overflow_add-i : goal.overflow_add-i
-overflow_add-i c = omega arith
-
-pub loop-i-smaller : goal.loop-i-smaller
-loop-i-smaller c = omega arith
 
 pub loop-i-preserved : goal.loop-i-preserved
 loop-i-preserved c =

@@ -1,10 +1,6 @@
-use mathlib.Core.Path.{sym, ◌∙◌}
-use Prim.Native.Nat.{◌<◌, ◌-◌}
-use native.Mathlib.Omega.{arith}
-use lib.ListN.{length, get_or}
-use Rattle.kep.proofs.Rest.{each_here}
-use Rattle.kep.proofs.Tests.{from_true, from_false}
-use Rattle.plans.proofs.Meeting.{Meeting, meeting_start, meeting_stop, meeting_next, meeting_end}
+use Prim.Native.Nat.{◌-◌}
+use lib.ListN.{length}
+use Rattle.plans.proofs.Meeting.{Meeting}
 use Rattle.plans.proofs.vertices.meet.Given as goal
 
 abbrev pub invariant-loop-i : goal.invariant-loop-i

@@ -1,15 +1,9 @@
 use borrow.Author.Tests.{le-leb, lt-leb}
-use mathlib.Core.Path.{◌≡◌, refl, ◌∙◌}
-use Prim.Native.Nat.{◌≤◌, ◌-◌}
+use mathlib.Core.Path.{refl, ◌∙◌}
 use native.Mathlib.Omega.{arith}
-use lib.ListN.{length, drop}
-use Rattle.plans.specs.Check.{none_lower}
 use Rattle.kep.proofs.Rest.{all_next, all_stop, all_end}
 use Rattle.plans.proofs.CheckCode.{rising_low, rising_high}
 use Rattle.plans.proofs.vertices.rises.Goals as goal
-
-pub bounds-vertices-0 : goal.bounds-vertices-0
-bounds-vertices-0 c = omega arith
 
 pub returns-then-first-least : goal.returns-then-first-least
 returns-then-first-least c = rising_low _ c.args.vertices.now c.if-first-least.true
@@ -17,18 +11,9 @@ returns-then-first-least c = rising_low _ c.args.vertices.now c.if-first-least.t
 pub loop-i-init : goal.loop-i-init
 loop-i-init c = (omega arith, refl)
 
-pub bounds-vertices-i : goal.bounds-vertices-i
-bounds-vertices-i c = omega arith
-
 pub returns-then-vertices-i : goal.returns-then-vertices-i
 returns-then-vertices-i c =
     all_stop _ c.args.vertices.now (c.loop-i.invariant.1 ∙ rising_high _ c.args.vertices.now c.if-first-least.false) c.loop-i-test.true (lt-leb _ _ c.if-vertices-i.true)
-
-pub overflow_add-i : goal.overflow_add-i
-overflow_add-i c = omega arith
-
-pub loop-i-smaller : goal.loop-i-smaller
-loop-i-smaller c = omega arith
 
 pub loop-i-preserved : goal.loop-i-preserved
 loop-i-preserved c =

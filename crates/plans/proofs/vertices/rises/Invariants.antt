@@ -1,11 +1,7 @@
-use borrow.Author.Tests.{le-leb, lt-leb}
-use mathlib.Core.Path.{◌≡◌, refl, ◌∙◌}
+use mathlib.Core.Path.{◌≡◌}
 use Prim.Native.Nat.{◌≤◌, ◌-◌}
-use native.Mathlib.Omega.{arith}
 use lib.ListN.{length, drop}
 use Rattle.plans.specs.Check.{none_lower}
-use Rattle.kep.proofs.Rest.{all_next, all_stop, all_end}
-use Rattle.plans.proofs.CheckCode.{rising_low, rising_high}
 use Rattle.plans.proofs.vertices.rises.Given as goal
 
 abbrev pub invariant-loop-i : goal.invariant-loop-i

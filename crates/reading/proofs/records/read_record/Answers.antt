@@ -10,4 +10,4 @@ returns-in_default c before met = kind_unknown before c.args.bytes.now (λ e. om
 pub returns : goal.returns
 returns c before met =
     tests_found before _ (elim c.match-kind.branch [ in-72 w ↦ kind_house w.in-72.is w.house-is | in-77 w ↦ kind_member w.in-77.is w.house-is ])
-    c.grades_fit-grades.ensures c.takes_nothing.ensures met c.weeks_and_machine_fit-weeks_and_machine.ensures (c.first_failed.ensures (length before))
+    c.grades_fit-grades.ensures (cc) met c.weeks_and_machine_fit-weeks_and_machine.ensures (c.first_failed.ensures (length before))
