@@ -26,7 +26,7 @@ returns-then-not-rising c =
 pub returns-then-not-joined : goal.returns-then-not-joined
 returns-then-not-joined c =
     let new = met_now _ c.args.vertices.now c.meet-met.ensures c.if-met-eq0.false in
-    let high = is_so c.rises-rising.ensures c.if-not-rising.false in
+    let high = is_so c.rises-rising.ensures (cc) in
     stop_15 c.requires.listed new.0 high (is_not c.all_joined-joined.ensures c.if-not-joined.true)
 
 pub returns-then-not-within_limits : goal.returns-then-not-within_limits

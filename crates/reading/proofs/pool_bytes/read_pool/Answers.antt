@@ -1,4 +1,5 @@
 use mathlib.Core.Path.{refl, sym, ap, ◌∙◌}
+use native.Mathlib.Omega.{arith}
 use Rattle.pool.specs.Refusals.{accepted}
 use Rattle.reading.specs.inner.Reading.{scan_outcome}
 use Rattle.reading.proofs.ReadLaws.{read_uneven, read_many, read_by, answer_refused, answer_accepted, records_accepted, pool_read}
@@ -21,12 +22,12 @@ returns-in-Houses c =
     let bytes = c.args.bytes.now in
     let done = sym (ap scan_outcome c.in-Houses.is) ∙ c.scan_records-scan.ensures in
     let (outcome, beside) = answer_accepted bytes _
-    (ap (λ p. accepted p) (pool_read bytes refl (records_accepted _ _ (sym done)) c.takers-gives.ensures c.waited-weeks.ensures) ∙ sym (read_by bytes c.if-length-ne0.false c.if-places-gt-MOST.false done)) in
+    (ap (λ p. accepted p) (pool_read bytes refl (records_accepted _ _ (sym done)) c.takers-gives.ensures c.waited-weeks.ensures) ∙ sym (read_by bytes c.if-length-ne0.false (omega arith) done)) in
     record { outcome = outcome; beside = beside }
 
 pub returns-in-Refused : goal.returns-in-Refused
 returns-in-Refused c =
     let bytes = c.args.bytes.now in
     let stopped = sym (ap scan_outcome c.in-Refused.is) ∙ c.scan_records-scan.ensures in
-    let (outcome, beside) = answer_refused bytes _ _ c.refused-in-Refused.ensures (sym (read_by bytes c.if-length-ne0.false c.if-places-gt-MOST.false stopped)) in
+    let (outcome, beside) = answer_refused bytes _ _ c.refused-in-Refused.ensures (sym (read_by bytes c.if-length-ne0.false (omega arith) stopped)) in
     record { outcome = outcome; beside = beside }
