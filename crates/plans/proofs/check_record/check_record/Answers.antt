@@ -26,5 +26,5 @@ check_listed-requires c =
     record {
       t = c.requires.t;
       served_bound = c.requires.served_bound;
-      listed = listed_part c.args.pool c.args.bytes.now c.requires.bytes_len c.count_listed-count.ensures c.if-count-eq0.false;
+      listed = listed_part c.args.pool c.args.bytes.now c.requires.bytes_len c.count_listed-count.ensures (λ e. omega arith);
     }
