@@ -1,0 +1,2 @@
+-- What only inner contracts and proofs use: nothing here has to be believed.
+pub mod Counts
