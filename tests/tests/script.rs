@@ -64,7 +64,7 @@ impl Project {
     /// The program is a minute old, the source an hour.
     fn new(program: &str) -> Self {
         let project = Project(Folder::new());
-        for path in ["crates/one/src", "target/bin", "tools"] {
+        for path in ["crates/one/src", "crates/swap", "target/bin", "tools"] {
             fs::create_dir_all(project.0.file(path)).unwrap();
         }
         fs::copy(of_project("swap"), project.0.file("swap")).unwrap();
@@ -90,8 +90,9 @@ impl Project {
         fs::set_permissions(&path, PermissionsExt::from_mode(0o755)).unwrap();
     }
 
+    /// It is called in the program's crate; the words stand at the project's root.
     fn rt(&self, words: &str) {
-        self.put("tools/rt", words);
+        self.put("tools/rt", &format!("cd ../..\n{words}"));
     }
 
     fn age(&self, path: &str, minutes: u64) {
