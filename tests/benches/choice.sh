@@ -7,7 +7,6 @@ copy=$(mktemp -d)
 trap 'rm -rf "$copy"' EXIT
 
 git ls-files -z | xargs -0 cp --parents -pt "$copy"
-if [ -d target ]; then cp -a target "$copy"; fi
 
 # A line that the edits below rest on.
 expect() {
@@ -21,19 +20,16 @@ echo 'pub use choosing::write_plan;' >> "$copy/crates/clearing/src/lib.rt"
 printf '%s\n' 'mod choice;' 'pub use choice::swap_write_plan;' >> "$copy/crates/capi/src/lib.rt"
 cat > "$copy/crates/capi/src/choice.rt" <<'RATTLE'
 // The choice of the plan over filled tables, for C.
-use pool::Limits;
-use pool::Pool;
-ghost use mathlib.Core.Path.{_≡_};
-ghost use Prim.Native.Nat.{_*_, _≤_};
-ghost use lib.Dec.{T};
-ghost use lib.ListN.{length};
-ghost use Rattle·pool.specs.Limits.{limitsOf, limitsFit};
-ghost use Rattle·pool.specs.Value.{poolFits};
-ghost use Rattle·clearing.specs.computed.Cleared.{planOf, planWritten};
-ghost use Rattle·clearing.specs.inner.Taking.{TablesHold};
-ghost use Rattle·capi·specs.specs.Answers.{poolFrom};
+ghost use Rattle.std.specs.Prelude.{◌≡◌, ◌*◌, ◌≤◌, T, length};
+ghost use Rattle.pool.specs.Limits.{limits_of, limits_fit};
+ghost use Rattle.pool.specs.Value.{pool_fits};
+ghost use Rattle.clearing.specs.computed.Cleared.{plan_of, plan_written};
+ghost use Rattle.clearing.specs.inner.Taking.{TablesHold};
+ghost use Rattle.capi.specs.Answers.{pool_from};
 
-#[no_mangle]
+use pool::{Limits, Pool};
+
+#[unsafe(no_mangle)]
 pub extern "C" fn swap_write_plan(
     places: u8,
     houses: u8,
@@ -45,12 +41,12 @@ pub extern "C" fn swap_write_plan(
     best: &[u32],
     plan: &mut [u8],
 ) -> usize
-    requires { ⌜ T (poolFits (poolFrom places houses (now gives) (now weeks))) ⌝ }
-    requires { ⌜ T (limitsFit (limitsOf lc lp)) ⌝ }
-    requires { ⌜ TablesHold (poolFrom places houses (now gives) (now weeks)) (limitsOf lc lp) (now exchanges) (now best) ⌝ }
-    requires { ⌜ 16 * places ≤ length (now plan) ⌝ }
-    ensures records { λ r. ⌜ r ≡ length (planOf (poolFrom places houses (now (gives .entry)) (now (weeks .entry))) (limitsOf lc lp)) ⌝ }
-    ensures written { λ _. ⌜ now (plan .exit) ≡ planWritten (poolFrom places houses (now (gives .entry)) (now (weeks .entry))) (limitsOf lc lp) (now (plan .entry)) ⌝ }
+    requires value { T (pool_fits (pool_from places houses gives.now weeks.now)) }
+    requires limits { T (limits_fit (limits_of lc lp)) }
+    requires tables { TablesHold (pool_from places houses gives.now weeks.now) (limits_of lc lp) exchanges.now best.now }
+    requires room { 16 * places ≤ length plan.old }
+    ensures records { result ≡ length (plan_of (pool_from places houses gives.now weeks.now) (limits_of lc lp)) }
+    ensures written { plan.new ≡ plan_written (pool_from places houses gives.now weeks.now) (limits_of lc lp) plan.old }
 {
     let sets = *gives;
     let waited = *weeks;
@@ -68,5 +64,5 @@ pub extern "C" fn swap_write_plan(
 }
 RATTLE
 
-(cd "$copy" && rt staticlib capi) >&2
-SWAPBOARD_LIB_DIR="$copy/target/staticlib" cargo bench --offline --manifest-path tests/Cargo.toml --features choice --bench choice
+(cd "$copy/crates/capi" && rt lib) >&2
+SWAPBOARD_LIB_DIR="$copy/crates/capi/out" cargo bench --offline --manifest-path tests/Cargo.toml --features choice --bench choice
