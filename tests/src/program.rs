@@ -169,7 +169,8 @@ pub fn printed_in(folder: &Path) -> String {
 }
 
 /// What came of a command: standard output and standard error as text, in which a
-/// byte that is none shows as another, and the exit code, none after a signal.
+/// byte that is none shows as another, and the exit code, none after a signal: one that the
+/// system tells, or a status that tells it as shells do, by 128 and its number.
 #[derive(Debug)]
 pub struct Run {
     pub printed: String,
@@ -184,7 +185,7 @@ pub fn run(command: &mut Command) -> Run {
     Run {
         printed: text(&output.stdout),
         said: text(&output.stderr),
-        code: output.status.code(),
+        code: output.status.code().filter(|&code| code < 128),
     }
 }
 
