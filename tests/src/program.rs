@@ -169,8 +169,7 @@ pub fn printed_in(folder: &Path) -> String {
 }
 
 /// What came of a command: standard output and standard error as text, in which a
-/// byte that is none shows as another, and the exit code, none after a signal: one that the
-/// system tells, or a status that tells it as shells do, by 128 and its number.
+/// byte that is none shows as another, and the exit code, none after a signal.
 #[derive(Debug)]
 pub struct Run {
     pub printed: String,
@@ -185,7 +184,7 @@ pub fn run(command: &mut Command) -> Run {
     Run {
         printed: text(&output.stdout),
         said: text(&output.stderr),
-        code: output.status.code().filter(|&code| code < 128),
+        code: output.status.code(),
     }
 }
 
