@@ -5,7 +5,7 @@ usage: tools/respell.py            at the top of the repository, once, after the
 
 A row of the table is an old name, a tab, a new one. Whole names turn: in .antt and .rt files the code, in edits that must fail the lines that are
 read, and in pages, comments and sentences what stands between back quotes. Functions of src/, exported names, strings, inputs and outputs keep theirs:
-no row has the spelling of one.
+no row has the spelling of one. The notes of docs/landings keep the names of their day.
 """
 
 import os
@@ -69,7 +69,7 @@ def files():
         if os.path.isfile(top):
             yield top
         for folder, inner, names in os.walk(top):
-            inner[:] = sorted(d for d in inner if d != "out")
+            inner[:] = sorted(d for d in inner if d not in ("out", "landings"))
             yield from (os.path.join(folder, name) for name in sorted(names))
 
 

@@ -99,7 +99,7 @@ module _ (pool limits : List ℕ) where
         plan = in_order q;
         count = served g (flat q);
         legal = plan_legal g lc lp ordered;
-        in_order = plan_in_order g lc lp ordered;
+        stands_in_order = plan_in_order g lc lp ordered;
         serves = in_order_total (member_worth g) q;
         optimum = rw same (answer_is_optimum g lc lp (weeks_in p) (few_weeks p (read_fits (counted pool) known.0)));
         text = ap (λ o. outcome_text o (limits_in limits)) e ∙ ap₂ (λ m ls. served_line (served g (flat q)) m ++ ls) (read_members_count (counted pool) known.0) (lines q legal);

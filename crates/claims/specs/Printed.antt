@@ -33,7 +33,7 @@ pub record PrintsPlan (pool limits : List ℕ) (p : Pool) : Type 0 where
   pub plan : List (List ℕ)
   pub count : ℕ
   pub legal : T (is_legal (graph_of p) (limits_in limits).cycle (limits_in limits).chain plan)
-  pub in_order : in_order plan ≡ plan
+  pub stands_in_order : in_order plan ≡ plan
   pub serves : served (graph_of p) (flat plan) ≡ count
   -- no legal plan serves more, of those that serve as many none has more weeks, and of those none has a record form that comes first;
   pub optimum : Optimum (graph_of p) (weeks_in p) (limits_in limits).cycle (limits_in limits).chain (record_form (graph_of p) plan) count

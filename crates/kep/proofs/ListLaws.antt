@@ -1,4 +1,4 @@
--- Laws of the tests on lists of numbers. A number x is in a list xs where `T (elem x xs)`, that is where `List.Memᴰ x xs`.
+-- Laws of the tests on lists of numbers. A number x is in a list xs where `T (elem x xs)`, that is where `Memᴰ x xs`.
 use mathlib.Core.Bool.{Bool, ◌&&◌, ◌||◌, not, and-true, true, and_assoc, or-false, false, or_assoc}
 use mathlib.Core.List.Memᴰ
 use mathlib.Core.List.{List, ◌∷◌, Memᴰ, [], ◌++◌}

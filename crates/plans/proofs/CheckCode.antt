@@ -8,7 +8,7 @@ use native.Mathlib.Decide.{dec_le}
 use native.Mathlib.Omega.{arith}
 use lib.Dec.{T, eqb, ltb, eqb→eq}
 use lib.ListN.{length, get_or}
-use borrow.Author.Tests.{le-leb, lt-leb, lt-ltb, le-ltb, ne_eqb}
+use borrow.Author.Tests.{le-leb, lt-leb, lt-ltb, le-ltb, ne_eqb, not-true, not-false}
 use Rattle.pool.specs.declared.limits.Limits.{Limits}
 use Rattle.pool.specs.declared.refusal.Cause.TheVariants as cause
 use Rattle.pool.specs.declared.value.Pool.{Pool}
@@ -30,11 +30,11 @@ use Rattle.pool.proofs.Tested.{all_pass, first_fails}
 use Rattle.plans.proofs.CheckArcs.{head_here}
 
 -- what a negated test says of what its call ensures
-pub is_so : {b t : Bool} → b ≡ t → b ≡ true → T t
-is_so e f = from_true (sym e ∙ f)
+pub is_so : {b t : Bool} → b ≡ t → not b ≡ false → T t
+is_so {b} e f = from_true (sym e ∙ not-false b f)
 
-pub is_not : {b t : Bool} → b ≡ t → b ≡ false → T t → ⊥
-is_not e f = from_false (sym e ∙ f)
+pub is_not : {b t : Bool} → b ≡ t → not b ≡ true → T t → ⊥
+is_not {b} e f = from_false (sym e ∙ not-true b f)
 
 -- ---- 14, from the first vertex
 

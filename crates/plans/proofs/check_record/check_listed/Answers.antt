@@ -9,6 +9,7 @@ use Rattle.plans.proofs.CheckArcs.{head_here}
 use Rattle.plans.proofs.CheckSteps.{served_most}
 use Rattle.plans.proofs.Meeting.{met_before, met_now}
 use Rattle.plans.proofs.CheckCode.{is_so, is_not, ends_served, stop_13, stop_14, stop_15, stop_16, stop_17, passes_all}
+use Rattle.std.proofs.lemmas.Bool.{not_from_true, not_from_false}
 use Rattle.plans.proofs.check_record.check_listed.Goals as goal
 
 pub meet-met-requires : goal.meet-met-requires
@@ -21,35 +22,35 @@ returns-then-met-eq0 c =
 pub returns-then-not-rising : goal.returns-then-not-rising
 returns-then-not-rising c =
     let new = met_now _ c.args.vertices.now c.meet-met.ensures c.if-met-eq0.false in
-    stop_14 c.requires.listed new.0 (is_not c.rises-rising.ensures c.if-not-rising.true)
+    stop_14 c.requires.listed new.0 (is_not c.rises-rising.ensures (not_from_false _ c.if-not-rising.true))
 
 pub returns-then-not-joined : goal.returns-then-not-joined
 returns-then-not-joined c =
     let new = met_now _ c.args.vertices.now c.meet-met.ensures c.if-met-eq0.false in
-    let high = is_so c.rises-rising.ensures (cc) in
-    stop_15 c.requires.listed new.0 high (is_not c.all_joined-joined.ensures c.if-not-joined.true)
+    let high = is_so c.rises-rising.ensures (not_from_true _ (cc)) in
+    stop_15 c.requires.listed new.0 high (is_not c.all_joined-joined.ensures (not_from_false _ c.if-not-joined.true))
 
 pub returns-then-not-within_limits : goal.returns-then-not-within_limits
 returns-then-not-within_limits c =
     let new = met_now _ c.args.vertices.now c.meet-met.ensures c.if-met-eq0.false in
-    let high = is_so c.rises-rising.ensures c.if-not-rising.false in
-    let arcs = is_so c.all_joined-joined.ensures c.if-not-joined.false in
-    stop_16 c.requires.listed new.0 high arcs (is_not c.within_limits.ensures c.if-not-within_limits.true)
+    let high = is_so c.rises-rising.ensures (not_from_true _ c.if-not-rising.false) in
+    let arcs = is_so c.all_joined-joined.ensures (not_from_true _ c.if-not-joined.false) in
+    stop_16 c.requires.listed new.0 high arcs (is_not c.within_limits.ensures (not_from_false _ c.if-not-within_limits.true))
 
 pub ends_right-requires : goal.ends_right-requires
 ends_right-requires c = record {
   t = c.requires.t;
   listed = c.requires.listed;
-  t_2 = is_so c.all_joined-joined.ensures c.if-not-joined.false;
+  t_2 = is_so c.all_joined-joined.ensures (not_from_true _ c.if-not-joined.false);
 }
 
 pub returns-then-not-ends_right : goal.returns-then-not-ends_right
 returns-then-not-ends_right c =
     let new = met_now _ c.args.vertices.now c.meet-met.ensures c.if-met-eq0.false in
-    let high = is_so c.rises-rising.ensures c.if-not-rising.false in
-    let arcs = is_so c.all_joined-joined.ensures c.if-not-joined.false in
-    let short = is_so c.within_limits.ensures c.if-not-within_limits.false in
-    stop_17 c.requires.listed new.0 high arcs short (is_not c.ends_right.ensures c.if-not-ends_right.true)
+    let high = is_so c.rises-rising.ensures (not_from_true _ c.if-not-rising.false) in
+    let arcs = is_so c.all_joined-joined.ensures (not_from_true _ c.if-not-joined.false) in
+    let short = is_so c.within_limits.ensures (not_from_true _ c.if-not-within_limits.false) in
+    stop_17 c.requires.listed new.0 high arcs short (is_not c.ends_right.ensures (not_from_false _ c.if-not-ends_right.true))
 
 pub overflow_add-least : goal.overflow_add-least
 overflow_add-least c =
@@ -59,16 +60,16 @@ overflow_add-least c =
 pub overflow_add-served : goal.overflow_add-served
 overflow_add-served c =
     let k = c.requires.listed in
-    let right = is_so c.ends_right.ensures c.if-not-ends_right.false in
+    let right = is_so c.ends_right.ensures (not_from_true _ c.if-not-ends_right.false) in
     omega (arith, c.requires.served_bound, ends_served _ c.args.bytes.now _ k.vertices right, served_most (graph_of c.args.pool) c.args.vertices.now, k.few)
 
 pub returns : goal.returns
 returns c =
     let k = c.requires.listed in
     let new = met_now _ c.args.vertices.now c.meet-met.ensures c.if-met-eq0.false in
-    let high = is_so c.rises-rising.ensures c.if-not-rising.false in
-    let arcs = is_so c.all_joined-joined.ensures c.if-not-joined.false in
-    let short = is_so c.within_limits.ensures c.if-not-within_limits.false in
-    let right = is_so c.ends_right.ensures c.if-not-ends_right.false in
+    let high = is_so c.rises-rising.ensures (not_from_true _ c.if-not-rising.false) in
+    let arcs = is_so c.all_joined-joined.ensures (not_from_true _ c.if-not-joined.false) in
+    let short = is_so c.within_limits.ensures (not_from_true _ c.if-not-within_limits.false) in
+    let right = is_so c.ends_right.ensures (not_from_true _ c.if-not-ends_right.false) in
     passes_all k new.0 high arcs short right new.1 (ap (λ x. x + 1) (sym (head_here c.args.vertices.now)))
     (ap (λ n. c.args.before.served + n) (ends_served _ c.args.bytes.now _ k.vertices right))
