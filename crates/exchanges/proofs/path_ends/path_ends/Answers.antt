@@ -25,76 +25,40 @@ loop-left-init c =
     let count : ones a.set ≡ ones (a.set - a.first) + 1 = rw c.requires.first_value (ones_lowest a.set (omega arith)) in
     (sifting_start, omega arith)
 
-pub overflow_sub-bit : goal.overflow_sub-bit
-overflow_sub-bit c =
-    let some : 0 < c.loop-left.left = pos_of_ne-zero c.loop-left-test.true in
-    let below : bit_and (c.loop-left.left - 1) c.loop-left.left < c.loop-left.left = step_below c.loop-left.left c.loop-left.left some in
-    omega (arith, below)
-
 pub overflow_sub-before : goal.overflow_sub-before
-overflow_sub-before c =
-    let left_le : c.loop-left.left ≤ c.args.set = omega (arith, part_le c.loop-left.invariant.0.inside) in
-    omega (arith, left_le)
-
-pub overflow_cast-v : goal.overflow_cast-v
-overflow_cast-v c =
-    let wide : c.args.set - c.args.first < 2 ^ 64 = omega arith in
-    let some : 0 < c.loop-left.left = pos_of_ne-zero c.loop-left-test.true in
-    let is_vertex : count_trailing_zeros 64 c.loop-left.left < c.args.pool.size = vertex c.args.givers.now c.args.table.now c.args.set wide some c.loop-left.invariant.0 c.args.pool.size (omega arith) in
-    omega (arith, is_vertex, fits_size c.args.pool c.requires.prepared.fits)
-
-pub bounds-table-before : goal.bounds-table-before
-bounds-table-before c = omega arith
-
-pub offset_bounds-givers-v : goal.offset_bounds-givers-v
-offset_bounds-givers-v c =
-    let wide : c.args.set - c.args.first < 2 ^ 64 = omega arith in
-    let some : 0 < c.loop-left.left = pos_of_ne-zero c.loop-left-test.true in
-    let is_vertex : count_trailing_zeros 64 c.loop-left.left < c.args.pool.size = vertex c.args.givers.now c.args.table.now c.args.set wide some c.loop-left.invariant.0 c.args.pool.size (omega arith) in
-    omega (arith, is_vertex, fits_size c.args.pool c.requires.prepared.fits)
+overflow_sub-before c = omega (arith, part_le c.loop-left.invariant.0.inside)
 
 pub bounds-givers-v : goal.bounds-givers-v
 bounds-givers-v c =
-    let wide : c.args.set - c.args.first < 2 ^ 64 = omega arith in
-    let some : 0 < c.loop-left.left = pos_of_ne-zero c.loop-left-test.true in
-    let is_vertex : count_trailing_zeros 64 c.loop-left.left < c.args.pool.size = vertex c.args.givers.now c.args.table.now c.args.set wide some c.loop-left.invariant.0 c.args.pool.size (omega arith) in
-    omega (arith, is_vertex, known_length c.requires.prepared, fits_size c.args.pool c.requires.prepared.fits)
-
-pub overflow_add-size : goal.overflow_add-size
-overflow_add-size c =
-    omega (arith, c.loop-left.invariant.1, ones-le 64 c.args.set (omega arith))
-
-pub loop-left-smaller : goal.loop-left-smaller
-loop-left-smaller c =
-    let some : 0 < c.loop-left.left = pos_of_ne-zero c.loop-left-test.true in
-    let below : bit_and (c.loop-left.left - 1) c.loop-left.left < c.loop-left.left = step_below c.loop-left.left c.loop-left.left some in
-    omega (arith, below)
+    let a = c.args in
+    -- the vertex looked at is one of the pool's
+    let is_vertex : count_trailing_zeros 64 c.loop-left.left < a.pool.size =
+        vertex a.givers.now a.table.now a.set (omega arith) (pos_of_ne-zero c.loop-left-test.true) c.loop-left.invariant.0 a.pool.size (omega arith) in
+    omega (arith, known_length c.requires.prepared, fits_size a.pool c.requires.prepared.fits)
 
 pub loop-left-preserved : goal.loop-left-preserved
 loop-left-preserved c =
-    let wide : c.args.set - c.args.first < 2 ^ 64 = omega arith in
     let some : 0 < c.loop-left.left = pos_of_ne-zero c.loop-left-test.true in
     let left = c.loop-left.left in
     let a = c.args in
     let fewer : ones left ≡ ones (bit_and (left - 1) left) + 1 = rw (lowest_out left some) (ones_lowest left some) in
     let met = bit_and (get_or a.table.now (a.set - (left - bit_and (left - 1) left)) 0) (get_or a.givers.now (count_trailing_zeros 64 left) 0) in
-    let added : c.if-met-eq0.ends ≡ bit_where met (left - bit_and (left - 1) left) = elim c.if-met-eq0.branch [ then-met-eq0 w ↦ w.ends-is ∙ rw w.if-met-eq0.true | else-met-eq0 w ↦ w.ends-is ∙ rw (ne_eqb met 0 w.if-met-eq0.false) ] in
-    (rw added (look a.givers.now a.table.now a.set wide some c.loop-left.invariant.0 refl), omega (arith, c.loop-left.invariant.1))
+    let added : c.if-met-eq0.ends ≡ bit_where met (left - bit_and (left - 1) left) =
+        elim c.if-met-eq0.branch [ then-met-eq0 w ↦ w.ends-is ∙ rw w.if-met-eq0.true | else-met-eq0 w ↦ w.ends-is ∙ rw (ne_eqb met 0 w.if-met-eq0.false) ] in
+    (rw added (look a.givers.now a.table.now a.set (omega arith) some c.loop-left.invariant.0 refl), omega (arith, c.loop-left.invariant.1))
 
 pub overflow_cast-result : goal.overflow_cast-result
-overflow_cast-result c =
-    let small : c.args.set < 2 ^ 14 = omega (arith, entries_few c.args.pool c.requires.prepared.fits) in
-    omega (arith, small, sifting_le c.loop-left.invariant.0)
+overflow_cast-result c = omega (arith, entries_few c.args.pool c.requires.prepared.fits, sifting_le c.loop-left.invariant.0)
 
 pub returns : goal.returns
 returns c =
-    let wide : c.args.set - c.args.first < 2 ^ 64 = omega arith in
     let a = c.args in
-    let g = graph_of a.pool in
     let none : c.loop-left.left ≡ 0 = c.loop-left-test.false in
     let count : c.loop-left.size + ones 0 ≡ ones a.set = rw none at c.loop-left.invariant.1 in
-    let several = ends_several g a.set (λ e. omega arith) in
+    let several = ends_several (graph_of a.pool) a.set (λ e. omega arith) in
     record {
-      ends = looked c.requires.prepared c.requires.known wide (omega arith) c.loop-left.left none c.loop-left.invariant.0 ∙ sym (rw (← c.requires.first_value) at several);
+      ends =
+          looked c.requires.prepared c.requires.known (omega arith) (omega arith) c.loop-left.left none c.loop-left.invariant.0
+          ∙ sym (rw (← c.requires.first_value) at several);
       size = omega (arith, ones_none);
     }
