@@ -26,52 +26,21 @@ pub loop-left-init : goal.loop-left-init
 unfolding tabulate
 loop-left-init c = (refl, λ j l. rw (get_d_whole (λ _. 0) 8 j l) sifting_start)
 
-pub overflow_sub-bit : goal.overflow_sub-bit
-overflow_sub-bit c =
-    let some : 0 < c.loop-left.left = pos_of_ne-zero c.loop-left-test.true in
-    let below : bit_and (c.loop-left.left - 1) c.loop-left.left < c.loop-left.left = step_below c.loop-left.left c.loop-left.left some in
-    omega (arith, below)
-
 pub overflow_sub-from : goal.overflow_sub-from
-overflow_sub-from c =
-    let left_le : c.loop-left.left ≤ c.args.base = part_le (c.loop-left.invariant.1 0 (omega arith)).inside in
-    omega (arith, left_le)
-
-pub overflow_cast-v : goal.overflow_cast-v
-overflow_cast-v c =
-    let small : c.args.base + 8 ≤ 2 ^ 14 = omega (arith, c.requires.base_bound, entries_few c.args.pool c.requires.prepared.fits) in
-    let wide : c.args.base < 2 ^ 64 = omega (arith, small) in
-    let some : 0 < c.loop-left.left = pos_of_ne-zero c.loop-left-test.true in
-    let few : c.args.pool.size ≤ 14 = fits_size c.args.pool c.requires.prepared.fits in
-    let is_vertex : count_trailing_zeros 64 c.loop-left.left < c.args.pool.size = let a = c.args in
-    vertex a.givers.now a.table.now (a.base + 0) wide some (c.loop-left.invariant.1 0 (omega arith)) a.pool.size (omega (arith, c.requires.base_bound)) in
-    omega (arith, is_vertex, few)
-
-pub offset_bounds-givers-v : goal.offset_bounds-givers-v
-offset_bounds-givers-v c =
-    let small : c.args.base + 8 ≤ 2 ^ 14 = omega (arith, c.requires.base_bound, entries_few c.args.pool c.requires.prepared.fits) in
-    let wide : c.args.base < 2 ^ 64 = omega (arith, small) in
-    let some : 0 < c.loop-left.left = pos_of_ne-zero c.loop-left-test.true in
-    let few : c.args.pool.size ≤ 14 = fits_size c.args.pool c.requires.prepared.fits in
-    let is_vertex : count_trailing_zeros 64 c.loop-left.left < c.args.pool.size = let a = c.args in
-    vertex a.givers.now a.table.now (a.base + 0) wide some (c.loop-left.invariant.1 0 (omega arith)) a.pool.size (omega (arith, c.requires.base_bound)) in
-    omega (arith, is_vertex, few)
+overflow_sub-from c = omega (arith, part_le (c.loop-left.invariant.1 0 (omega arith)).inside)
 
 pub bounds-givers-v : goal.bounds-givers-v
 bounds-givers-v c =
-    let small : c.args.base + 8 ≤ 2 ^ 14 = omega (arith, c.requires.base_bound, entries_few c.args.pool c.requires.prepared.fits) in
-    let wide : c.args.base < 2 ^ 64 = omega (arith, small) in
-    let some : 0 < c.loop-left.left = pos_of_ne-zero c.loop-left-test.true in
-    let few : c.args.pool.size ≤ 14 = fits_size c.args.pool c.requires.prepared.fits in
-    let is_vertex : count_trailing_zeros 64 c.loop-left.left < c.args.pool.size = let a = c.args in
-    vertex a.givers.now a.table.now (a.base + 0) wide some (c.loop-left.invariant.1 0 (omega arith)) a.pool.size (omega (arith, c.requires.base_bound)) in
-    omega (arith, is_vertex, few, known_length c.requires.prepared)
+    let a = c.args in
+    let few : a.pool.size ≤ 14 = fits_size a.pool c.requires.prepared.fits in
+    -- the vertex looked at is one of the pool's
+    let is_vertex : count_trailing_zeros 64 c.loop-left.left < a.pool.size =
+        vertex a.givers.now a.table.now (a.base + 0) (omega arith) (pos_of_ne-zero c.loop-left-test.true) (c.loop-left.invariant.1 0 (omega arith)) a.pool.size (omega arith) in
+    omega (arith, known_length c.requires.prepared)
 
 pub overflow_cast-bit : goal.overflow_cast-bit
 overflow_cast-bit c =
-    let small : c.args.base + 8 ≤ 2 ^ 14 = omega (arith, c.requires.base_bound, entries_few c.args.pool c.requires.prepared.fits) in
-    let left_le : c.loop-left.left ≤ c.args.base = part_le (c.loop-left.invariant.1 0 (omega arith)).inside in
-    omega (arith, left_le, small)
+    omega (arith, part_le (c.loop-left.invariant.1 0 (omega arith)).inside, entries_few c.args.pool c.requires.prepared.fits)
 
 pub add_open-requires : goal.add_open-requires
 add_open-requires c =
@@ -80,48 +49,27 @@ add_open-requires c =
       eight_len = c.loop-left.invariant.0;
     }
 
-pub loop-left-smaller : goal.loop-left-smaller
-loop-left-smaller c =
-    let some : 0 < c.loop-left.left = pos_of_ne-zero c.loop-left-test.true in
-    let below : bit_and (c.loop-left.left - 1) c.loop-left.left < c.loop-left.left = step_below c.loop-left.left c.loop-left.left some in
-    omega (arith, below)
-
 pub loop-left-preserved : goal.loop-left-preserved
 loop-left-preserved c =
-    let small : c.args.base + 8 ≤ 2 ^ 14 = omega (arith, c.requires.base_bound, entries_few c.args.pool c.requires.prepared.fits) in
-    let wide : c.args.base < 2 ^ 64 = omega (arith, small) in
-    let some : 0 < c.loop-left.left = pos_of_ne-zero c.loop-left-test.true in
-    let left_le : c.loop-left.left ≤ c.args.base = part_le (c.loop-left.invariant.1 0 (omega arith)).inside in
     let a = c.args in
     let left = c.loop-left.left in
+    let left_le : left ≤ a.base = part_le (c.loop-left.invariant.1 0 (omega arith)).inside in
     let opened = c.add_open.ensures in (
       opened.same_length ∙ c.loop-left.invariant.0,
       λ j lt.
           let from : a.base - (left - bit_and (left - 1) left) + j ≡ a.base + j - (left - bit_and (left - 1) left) = omega (arith, left_le) in
-          rw (opened.done j lt refl) (look a.givers.now a.table.now (a.base + j) wide some (c.loop-left.invariant.1 j lt) from),
+          rw (opened.done j lt refl) (look a.givers.now a.table.now (a.base + j) (omega arith) (pos_of_ne-zero c.loop-left-test.true) (c.loop-left.invariant.1 j lt) from),
     )
-
-pub overflow_sub-rest : goal.overflow_sub-rest
-overflow_sub-rest c = omega (arith, pos_of_ne-zero c.if-base-eq0.false)
-
-pub overflow_cast-eight : goal.overflow_cast-eight
-overflow_cast-eight c =
-    let small : c.args.base + 8 ≤ 2 ^ 14 = omega (arith, c.requires.base_bound, entries_few c.args.pool c.requires.prepared.fits) in
-    omega (arith, small)
-
-pub overflow_cast-eight-else-rest-eq0 : goal.overflow_cast-eight-else-rest-eq0
-overflow_cast-eight-else-rest-eq0 c =
-    let small : c.args.base + 8 ≤ 2 ^ 14 = omega (arith, c.requires.base_bound, entries_few c.args.pool c.requires.prepared.fits) in
-    omega (arith, small, and_le_r (c.args.base - 1) c.args.base)
 
 pub returns : goal.returns
 returns c =
-    let small : c.args.base + 8 ≤ 2 ^ 14 = omega (arith, c.requires.base_bound, entries_few c.args.pool c.requires.prepared.fits) in
-    let wide : c.args.base < 2 ^ 64 = omega (arith, small) in
     let a = c.args in
     let g = graph_of a.pool in
     let found : (j : ℕ) → j < 8 → get_or c.loop-left.eight j 0 ≡ common g a.base j =
-    λ j l. looked c.requires.prepared (c.requires.by_index j l) wide (omega (arith, c.requires.base_bound)) c.loop-left.left c.loop-left-test.false (c.loop-left.invariant.1 j l) in
+        λ j l. looked c.requires.prepared (c.requires.by_index j l) (omega arith) (omega arith) c.loop-left.left c.loop-left-test.false (c.loop-left.invariant.1 j l) in
     let pos = pos_of_ne-zero c.if-base-eq0.false in
     lanes_found g a.base pos c.requires.base_value c.loop-left.eight found c.loop-left.invariant.0
-    (elim c.if-rest-eq0.branch [ then-rest-eq0 w ↦ w.eight-is ∙ first_alone g a.base pos c.requires.base_value c.loop-left.eight found w.if-rest-eq0.true | else-rest-eq0 w ↦ w.eight-is ∙ first_several g a.base pos c.requires.base_value c.loop-left.eight found w.if-rest-eq0.false ])
+    (elim c.if-rest-eq0.branch [
+      | then-rest-eq0 w ↦ w.eight-is ∙ first_alone g a.base pos c.requires.base_value c.loop-left.eight found w.if-rest-eq0.true
+      | else-rest-eq0 w ↦ w.eight-is ∙ first_several g a.base pos c.requires.base_value c.loop-left.eight found w.if-rest-eq0.false
+    ])
