@@ -1,16 +1,18 @@
 use mathlib.Core.Path.{◌≡◌, refl}
-use Prim.Native.Nat.{◌+◌, ◌≤◌, ◌^◌}
+use Prim.Native.Nat.{ℕ, ◌+◌, ◌*◌, ◌%◌, ◌<◌, ◌≤◌, ◌^◌}
 use native.Mathlib.Omega.{arith}
-use lib.ListN.{length}
-use Rattle.pool.specs.Value.{graph_of}
+use lib.Dec.{T}
+use Rattle.pool.specs.declared.value.Pool.{Pool}
+use Rattle.pool.specs.Value.{graph_of, pool_fits}
 use Rattle.pool.proofs.ValueLaws.{fits_size, entries_are, entries_few}
 use Rattle.exchanges.proofs.Changed.{changed_none}
 use Rattle.exchanges.proofs.Given.{known_length, known_givers}
 use Rattle.exchanges.proofs.EightLanes.{eight_known, eight_more, eights}
 use Rattle.exchanges.proofs.abreast.fill_path_ends.Goals as goal
 
-pub overflow_shl-sets : goal.overflow_shl-sets
-overflow_shl-sets c = omega (arith, fits_size c.args.pool c.requires.prepared.fits)
+-- eight more sets are sets of the pool
+block : (p : Pool) → T (pool_fits p) → 3 ≤ p.size → {base : ℕ} → base < 1 * 2 ^ p.size % 2 ^ 64 → base % 8 ≡ 0 → base + 8 ≤ 2 ^ p.size
+block p fits three less m = omega (arith, entries_are p fits, eights p.size three)
 
 pub bounds-givers-1 : goal.bounds-givers-1
 bounds-givers-1 c = omega (arith, known_length c.requires.prepared)
@@ -23,13 +25,11 @@ loop-base-init c = (refl, omega arith, changed_none 0 (λ i b _. absurd (omega a
 
 pub common_ends-eight-requires : goal.common_ends-eight-requires
 common_ends-eight-requires c =
-    let block : c.loop-base.base + 8 ≤ 2 ^ c.args.pool.size = omega (arith, c.loop-base-test.true, c.loop-base.invariant.0, entries_are c.args.pool c.requires.prepared.fits, eights c.args.pool.size c.requires.le_size) in
-    let room : 2 ^ c.args.pool.size ≤ length c.loop-base.table = omega (arith, c.loop-base.invariant.2.same_length, c.requires.size_in_bounds) in
     let (m, _, filled) = c.loop-base.invariant in
     record {
       prepared = c.requires.prepared;
-      size_in_bounds = room;
-      base_bound = block;
+      size_in_bounds = omega (arith, filled.same_length);
+      base_bound = block c.args.pool c.requires.prepared.fits c.requires.le_size c.loop-base-test.true m;
       base_value = m;
       by_index = eight_known c.loop-base.base m (graph_of c.args.pool) c.loop-base.table (λ i b. filled.done i b refl);
     }
@@ -47,25 +47,17 @@ all_ends-found-requires c =
 
 pub store_eight-requires : goal.store_eight-requires
 store_eight-requires c =
-    let block : c.loop-base.base + 8 ≤ 2 ^ c.args.pool.size = omega (arith, c.loop-base-test.true, c.loop-base.invariant.0, entries_are c.args.pool c.requires.prepared.fits, eights c.args.pool.size c.requires.le_size) in
-    let room : 2 ^ c.args.pool.size ≤ length c.loop-base.table = omega (arith, c.loop-base.invariant.2.same_length, c.requires.size_in_bounds) in
-    omega (arith, block, room)
-
-pub overflow_add-base : goal.overflow_add-base
-overflow_add-base c =
-    let block : c.loop-base.base + 8 ≤ 2 ^ c.args.pool.size = omega (arith, c.loop-base-test.true, c.loop-base.invariant.0, entries_are c.args.pool c.requires.prepared.fits, eights c.args.pool.size c.requires.le_size) in
-    omega (arith, block, entries_few c.args.pool c.requires.prepared.fits)
-
-pub loop-base-smaller : goal.loop-base-smaller
-loop-base-smaller c =
-    let block : c.loop-base.base + 8 ≤ 2 ^ c.args.pool.size = omega (arith, c.loop-base-test.true, c.loop-base.invariant.0, entries_are c.args.pool c.requires.prepared.fits, eights c.args.pool.size c.requires.le_size) in
-    omega (arith, block)
+    let (m, _, filled) = c.loop-base.invariant in
+    omega (arith, block c.args.pool c.requires.prepared.fits c.requires.le_size c.loop-base-test.true m, filled.same_length)
 
 pub loop-base-preserved : goal.loop-base-preserved
 loop-base-preserved c =
-    let block : c.loop-base.base + 8 ≤ 2 ^ c.args.pool.size = omega (arith, c.loop-base-test.true, c.loop-base.invariant.0, entries_are c.args.pool c.requires.prepared.fits, eights c.args.pool.size c.requires.le_size) in
-    let inv = c.loop-base.invariant in
-    (omega (arith, inv.0), block, eight_more (graph_of c.args.pool) c.loop-base.base c.all_ends-found.ensures inv.2 c.store_eight.ensures)
+    let (m, _, filled) = c.loop-base.invariant in
+    (
+      omega (arith, m),
+      block c.args.pool c.requires.prepared.fits c.requires.le_size c.loop-base-test.true m,
+      eight_more (graph_of c.args.pool) c.loop-base.base c.all_ends-found.ensures filled c.store_eight.ensures,
+    )
 
 pub returns : goal.returns
 returns c =
