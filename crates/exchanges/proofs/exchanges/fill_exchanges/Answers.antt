@@ -1,12 +1,20 @@
 use mathlib.Core.Path.{◌≡◌}
+use Prim.Native.Nat.{ℕ}
 use native.Mathlib.Omega.{arith}
-use lib.ListN.{length}
-use Rattle.pool.specs.Refusals.{accepted, tested}
+use Rattle.pool.specs.declared.limits.Limits.{Limits}
+use Rattle.pool.specs.declared.value.Pool.{Pool}
+use Rattle.pool.specs.declared.refusal.Verdict.{Verdict}
+use Rattle.pool.specs.declared.refusal.Verdict.TheVariants as verdict
+use Rattle.pool.specs.Refusals.{accepted, outcome_of, tested}
 use Rattle.exchanges.specs.ExchangesCall.{exchanges_tests}
 use Rattle.pool.proofs.Tested.{outcome_accepted, outcome_refused}
 use Rattle.pool.proofs.ValueLaws.{fits_size, entries_are}
 use Rattle.exchanges.proofs.ExchangesCall.{Passed, passed, leaves, filled}
 use Rattle.exchanges.proofs.exchanges.fill_exchanges.Goals as goal
+
+-- all tests were passed
+holds : (p : Pool) (l : Limits) (table : ℕ) {v : Verdict} → v ≡ verdict.Accepted → outcome_of v p ≡ tested (exchanges_tests p l table) 0 (accepted p) → Passed p l table
+holds p l table e told = passed p l table (outcome_accepted e told)
 
 pub returns-in-Refused : goal.returns-in-Refused
 returns-in-Refused c =
@@ -15,9 +23,7 @@ returns-in-Refused c =
 
 pub fill_by_lowest-requires : goal.fill_by_lowest-requires
 fill_by_lowest-requires c =
-    let told : let a = c.args in accepted a.pool ≡ tested (exchanges_tests a.pool a.limits (length a.table.now)) 0 (accepted a.pool) = outcome_accepted c.in_default.is c.test_exchanges-verdict.ensures in
-    let holds : let a = c.args in Passed a.pool a.limits (length a.table.now) = passed _ _ _ told in
-    let h = holds in
+    let h = holds c.args.pool c.args.limits _ c.in_default.is c.test_exchanges-verdict.ensures in
     record {
       prepared = record { fits = h.fits; given = c.all_givers-givers.ensures };
       size_in_bounds = h.long;
@@ -25,13 +31,12 @@ fill_by_lowest-requires c =
 
 pub overflow_shl-entries : goal.overflow_shl-entries
 overflow_shl-entries c =
-    let told : let a = c.args in accepted a.pool ≡ tested (exchanges_tests a.pool a.limits (length a.table.now)) 0 (accepted a.pool) = outcome_accepted c.in_default.is c.test_exchanges-verdict.ensures in
-    let holds : let a = c.args in Passed a.pool a.limits (length a.table.now) = passed _ _ _ told in
-    omega (arith, fits_size c.args.pool holds.fits)
+    let h = holds c.args.pool c.args.limits _ c.in_default.is c.test_exchanges-verdict.ensures in
+    omega (arith, fits_size c.args.pool h.fits)
 
 pub returns : goal.returns
 returns c =
-    let told : let a = c.args in accepted a.pool ≡ tested (exchanges_tests a.pool a.limits (length a.table.now)) 0 (accepted a.pool) = outcome_accepted c.in_default.is c.test_exchanges-verdict.ensures in
-    let holds : let a = c.args in Passed a.pool a.limits (length a.table.now) = passed _ _ _ told in
-    let told = filled c.args.pool c.args.limits c.args.table.now told (entries_are c.args.pool holds.fits) c.fill_by_lowest.ensures in
+    let a = c.args in
+    let h = holds a.pool a.limits _ c.in_default.is c.test_exchanges-verdict.ensures in
+    let told = filled a.pool a.limits a.table.now (outcome_accepted c.in_default.is c.test_exchanges-verdict.ensures) (entries_are a.pool h.fits) c.fill_by_lowest.ensures in
     record { outcome = told.0; left = told.1 }
