@@ -1,15 +1,14 @@
 use mathlib.Core.Path.{◌≡◌, refl, ◌∙◌}
-use Prim.Native.Nat.{ℕ, ◌+◌, ◌-◌, ◌≤◌, ◌<◌, ◌^◌}
+use Prim.Native.Nat.{ℕ, ◌+◌, ◌-◌, ◌≤◌, ◌<◌}
 use native.Mathlib.Nat.{pos_of_ne-zero}
 use native.Mathlib.Omega.{arith}
-use lib.Bits.{bit_and, and_le_r}
+use lib.Bits.{bit_and}
 use lib.Count.{count_trailing_zeros}
 use lib.ListN.{get_or}
 use Rattle.kep.specs.Lists.{tabulate}
 use Rattle.pool.specs.Value.{graph_of}
 use Rattle.kep.proofs.Tables.{get_d_whole}
 use Rattle.kep.proofs.Parts.{part_le}
-use Rattle.kep.proofs.Down.{step_below}
 use Rattle.pool.proofs.ValueLaws.{fits_size, entries_few}
 use Rattle.kep.proofs.Sifting.{sifting_start}
 use Rattle.exchanges.specs.inner.Abreast.{common}
@@ -35,19 +34,12 @@ bounds-givers-v c =
     let few : a.pool.size ≤ 14 = fits_size a.pool c.requires.prepared.fits in
     -- the vertex looked at is one of the pool's
     let is_vertex : count_trailing_zeros 64 c.loop-left.left < a.pool.size =
-        vertex a.givers.now a.table.now (a.base + 0) (omega arith) (pos_of_ne-zero c.loop-left-test.true) (c.loop-left.invariant.1 0 (omega arith)) a.pool.size (omega arith) in
+    vertex a.givers.now a.table.now (a.base + 0) (omega arith) (pos_of_ne-zero c.loop-left-test.true) (c.loop-left.invariant.1 0 (omega arith)) a.pool.size (omega arith) in
     omega (arith, known_length c.requires.prepared)
 
 pub overflow_cast-bit : goal.overflow_cast-bit
 overflow_cast-bit c =
     omega (arith, part_le (c.loop-left.invariant.1 0 (omega arith)).inside, entries_few c.args.pool c.requires.prepared.fits)
-
-pub add_open-requires : goal.add_open-requires
-add_open-requires c =
-    record {
-      from_in_bounds = omega (arith, c.requires.size_in_bounds, c.requires.base_bound);
-      eight_len = c.loop-left.invariant.0;
-    }
 
 pub loop-left-preserved : goal.loop-left-preserved
 loop-left-preserved c =
@@ -66,7 +58,7 @@ returns c =
     let a = c.args in
     let g = graph_of a.pool in
     let found : (j : ℕ) → j < 8 → get_or c.loop-left.eight j 0 ≡ common g a.base j =
-        λ j l. looked c.requires.prepared (c.requires.by_index j l) (omega arith) (omega arith) c.loop-left.left c.loop-left-test.false (c.loop-left.invariant.1 j l) in
+    λ j l. looked c.requires.prepared (c.requires.by_index j l) (omega arith) (omega arith) c.loop-left.left c.loop-left-test.false (c.loop-left.invariant.1 j l) in
     let pos = pos_of_ne-zero c.if-base-eq0.false in
     lanes_found g a.base pos c.requires.base_value c.loop-left.eight found c.loop-left.invariant.0
     (elim c.if-rest-eq0.branch [

@@ -50,17 +50,17 @@ pub loop-set-init : goal.loop-set-init
 loop-set-init c =
     let a = c.args in
     let b = begun (graph_of a.pool) a.low a.pool.size a.cap c.if-cap-eq0.table a.table.now c.requires.low_lt_size (fits_size a.pool c.requires.prepared.fits) c.requires.size_in_bounds c.requires.held
-        (elim c.if-cap-eq0.branch [ then-cap-eq0 w ↦ inl (w.if-cap-eq0.true, w.table-is) | else-cap-eq0 w ↦ inr (w.if-cap-eq0.false, w.table-is) ]) in
+    (elim c.if-cap-eq0.branch [ then-cap-eq0 w ↦ inl (w.if-cap-eq0.true, w.table-is) | else-cap-eq0 w ↦ inr (w.if-cap-eq0.false, w.table-is) ]) in
     let n = b.numbers in
     let (allowed, many) = first_set {l = a.low} {cap = a.cap} {n = 2 ^ a.pool.size} {set = c.if-cap-lt2.set}
-        (elim c.if-cap-lt2.branch [ then-cap-lt2 w ↦ inl (w.if-cap-lt2.true, w.set-is ∙ n.sets) | else-cap-lt2 w ↦ inr (w.if-cap-lt2.false, w.set-is ∙ omega (arith, n)) ]) in
+    (elim c.if-cap-lt2.branch [ then-cap-lt2 w ↦ inl (w.if-cap-lt2.true, w.set-is ∙ n.sets) | else-cap-lt2 w ↦ inr (w.if-cap-lt2.false, w.set-is ∙ omega (arith, n)) ]) in
     (allowed, rw n.first (begun_start (graph_of a.pool) a.low a.pool.size a.cap b.room b.alone c.if-cap-lt2.set many))
 
 pub path_ends-found-requires : goal.path_ends-found-requires
 path_ends-found-requires c =
     let a = c.args in
     let b = begun (graph_of a.pool) a.low a.pool.size a.cap c.if-cap-eq0.table a.table.now c.requires.low_lt_size (fits_size a.pool c.requires.prepared.fits) c.requires.size_in_bounds c.requires.held
-        (elim c.if-cap-eq0.branch [ then-cap-eq0 w ↦ inl (w.if-cap-eq0.true, w.table-is) | else-cap-eq0 w ↦ inr (w.if-cap-eq0.false, w.table-is) ]) in
+    (elim c.if-cap-eq0.branch [ then-cap-eq0 w ↦ inl (w.if-cap-eq0.true, w.table-is) | else-cap-eq0 w ↦ inr (w.if-cap-eq0.false, w.table-is) ]) in
     let s = turn (graph_of a.pool) a.low a.pool.size a.cap c.if-cap-eq0.table a.table.now b.numbers c.loop-set-test.true c.loop-set.invariant in
     let first = b.numbers.first in
     record {
@@ -79,11 +79,10 @@ pub loop-set-preserved : goal.loop-set-preserved
 loop-set-preserved c =
     let a = c.args in
     let b = begun (graph_of a.pool) a.low a.pool.size a.cap c.if-cap-eq0.table a.table.now c.requires.low_lt_size (fits_size a.pool c.requires.prepared.fits) c.requires.size_in_bounds c.requires.held
-        (elim c.if-cap-eq0.branch [ then-cap-eq0 w ↦ inl (w.if-cap-eq0.true, w.table-is) | else-cap-eq0 w ↦ inr (w.if-cap-eq0.false, w.table-is) ]) in
+    (elim c.if-cap-eq0.branch [ then-cap-eq0 w ↦ inl (w.if-cap-eq0.true, w.table-is) | else-cap-eq0 w ↦ inr (w.if-cap-eq0.false, w.table-is) ]) in
     let s = turn (graph_of a.pool) a.low a.pool.size a.cap c.if-cap-eq0.table a.table.now b.numbers c.loop-set-test.true c.loop-set.invariant in
     let found = c.path_ends-found.ensures in
-    let next = c.next_allowed-set.ensures a.low b.numbers.first found.size s.allowed in
-    (
+    let next = c.next_allowed-set.ensures a.low b.numbers.first found.size s.allowed in (
       λ _. next_allowed s.allowed next,
       rw b.numbers.first (begun_more (graph_of a.pool) a.low a.pool.size a.cap b.room b.alone s.small s.allowed s.filled found.ends next),
     )

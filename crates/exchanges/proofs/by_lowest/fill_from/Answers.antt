@@ -28,32 +28,16 @@ closes {p} known lc lp l h (inr (member, e)) = member_closes (graph_of p) (fits_
 pub bounds-givers-at : goal.bounds-givers-at
 bounds-givers-at c = omega (arith, known_length c.requires.prepared, fits_size c.args.pool c.requires.prepared.fits)
 
-pub keep_ends-requires : goal.keep_ends-requires
-keep_ends-requires c =
-    let a = c.args in
-    record {
-      size_bound = fits_size a.pool c.requires.prepared.fits;
-      size_in_bounds = c.requires.size_in_bounds;
-      low_lt_size = c.requires.low_lt_size;
-      spare = few_spare a.low a.pool.size c.limit_of-cap.result a.table.now c.requires.low_lt_size;
-    }
+pub keep_ends-requires-clause-spare : goal.keep_ends-requires-clause-spare
+keep_ends-requires-clause-spare c = let a = c.args in few_spare a.low a.pool.size c.limit_of-cap.result a.table.now c.requires.low_lt_size
 
 pub returns-then-filled : goal.returns-then-filled
 returns-then-filled c =
     let a = c.args in
     let at_end = closes c.requires.prepared a.limits.cycle a.limits.chain a.low c.requires.low_lt_size
-        (elim c.if-low-pool.branch [ then-low-pool w ↦ inl (w.if-low-pool.true, w.closing-is) | else-low-pool w ↦ inr (w.if-low-pool.false, w.closing-is) ]) in
+    (elim c.if-low-pool.branch [ then-low-pool w ↦ inl (w.if-low-pool.true, w.closing-is) | else-low-pool w ↦ inr (w.if-low-pool.false, w.closing-is) ]) in
     let held = changed_none (2 ^ a.pool.size) (held_as c.if-filled.true c.requires.held).each in
     kept_entries (graph_of a.pool) a.limits.cycle a.limits.chain a.low (2 ^ a.pool.size) at_end held (λ _ _ _ _. refl) (rw c.limit_of-cap.ensures.limit at c.keep_ends.ensures)
-
-pub fill_allowed-requires : goal.fill_allowed-requires
-fill_allowed-requires c =
-    record {
-      prepared = c.requires.prepared;
-      size_in_bounds = c.requires.size_in_bounds;
-      low_lt_size = c.requires.low_lt_size;
-      held = held_as c.if-filled.false c.requires.held;
-    }
 
 pub bounds-table-alone : goal.bounds-table-alone
 bounds-table-alone c = omega (arith, c.fill_allowed.ensures.same_length, pow-lt c.requires.low_lt_size)
@@ -65,16 +49,9 @@ returns-then-low-pool-2 c =
     (chains_entered (graph_of a.pool) (fits_formed a.pool c.requires.prepared.fits) a.limits.cycle a.limits.chain a.low a.pool.size c.requires.low_lt_size c.if-low-pool-2.true c.requires.size_in_bounds
     (rw c.limit_of-cap.ensures.limit at c.fill_allowed.ensures))
 
-pub keep_ends-requires-2 : goal.keep_ends-requires-2
-keep_ends-requires-2 c =
-    let a = c.args in
-    let filled = c.fill_allowed.ensures in
-    record {
-      size_bound = fits_size a.pool c.requires.prepared.fits;
-      size_in_bounds = omega (arith, filled.same_length, c.requires.size_in_bounds);
-      low_lt_size = c.requires.low_lt_size;
-      spare = record { none = λ _ i b h more. filled.done i b h ∙ beyond (graph_of a.pool) c.limit_of-cap.result i more };
-    }
+pub keep_ends-requires-2-clause-spare : goal.keep_ends-requires-2-clause-spare
+keep_ends-requires-2-clause-spare c =
+    record { none = λ _ i b h more. c.fill_allowed.ensures.done i b h ∙ beyond (graph_of c.args.pool) c.limit_of-cap.result i more }
 
 pub returns : goal.returns
 returns c =
@@ -82,5 +59,5 @@ returns c =
     let g = graph_of a.pool in
     let limit = c.limit_of-cap.ensures.limit in
     let at_end = closes c.requires.prepared a.limits.cycle a.limits.chain a.low c.requires.low_lt_size
-        (elim c.if-low-pool.branch [ then-low-pool w ↦ inl (w.if-low-pool.true, w.closing-is) | else-low-pool w ↦ inr (w.if-low-pool.false, w.closing-is) ]) in
+    (elim c.if-low-pool.branch [ then-low-pool w ↦ inl (w.if-low-pool.true, w.closing-is) | else-low-pool w ↦ inr (w.if-low-pool.false, w.closing-is) ]) in
     kept_entries g a.limits.cycle a.limits.chain a.low (2 ^ a.pool.size) at_end (rw limit at c.fill_allowed.ensures) (λ i b h fits. within g _ i fits) (rw limit at c.keep_ends-2.ensures)

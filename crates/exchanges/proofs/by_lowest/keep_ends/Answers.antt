@@ -3,8 +3,7 @@ use Prim.Native.Nat.{◌<◌, ◌^◌}
 use native.Mathlib.Omega.{arith}
 use lib.Bits.{bit_and}
 use lib.ListN.{get_or}
-use lib.Pow.{pow_pos}
-use Rattle.exchanges.proofs.ByLowest.{begins_alone, begins_next, Numbers, numbers_are, kept_start, kept_by, kept_more}
+use Rattle.exchanges.proofs.ByLowest.{begins_alone, begins_next, numbers_are, kept_start, kept_by, kept_more}
 use Rattle.exchanges.proofs.Changed.{changed_end}
 use Rattle.exchanges.proofs.by_lowest.keep_ends.Goals as goal
 

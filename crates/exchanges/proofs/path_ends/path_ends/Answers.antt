@@ -1,16 +1,15 @@
 use mathlib.Core.Path.{◌≡◌, refl, sym, ◌∙◌}
-use Prim.Native.Nat.{◌+◌, ◌-◌, ◌≤◌, ◌<◌, ◌^◌}
+use Prim.Native.Nat.{◌+◌, ◌-◌, ◌<◌}
 use native.Mathlib.Nat.{pos_of_ne-zero}
 use native.Mathlib.Omega.{arith}
 use lib.ListN.{get_or}
 use borrow.Author.Tests.{ne_eqb}
 use Rattle.exchanges.specs.inner.Abreast.{bit_where}
 use lib.Bits.{bit_and}
-use lib.Count.{ones, ones-le, count_trailing_zeros}
+use lib.Count.{ones, count_trailing_zeros}
 use Rattle.pool.specs.Value.{graph_of}
 use Rattle.kep.proofs.Parts.{part_le}
 use Rattle.pool.proofs.ValueLaws.{fits_size, entries_few}
-use Rattle.kep.proofs.Down.{step_below}
 use Rattle.kep.proofs.LowestBit.{lowest_out, ones_lowest, ones_none}
 use Rattle.kep.proofs.Sifting.{sifting_start, sifting_le}
 use Rattle.kep.proofs.Ends.{ends_several}
@@ -33,7 +32,7 @@ bounds-givers-v c =
     let a = c.args in
     -- the vertex looked at is one of the pool's
     let is_vertex : count_trailing_zeros 64 c.loop-left.left < a.pool.size =
-        vertex a.givers.now a.table.now a.set (omega arith) (pos_of_ne-zero c.loop-left-test.true) c.loop-left.invariant.0 a.pool.size (omega arith) in
+    vertex a.givers.now a.table.now a.set (omega arith) (pos_of_ne-zero c.loop-left-test.true) c.loop-left.invariant.0 a.pool.size (omega arith) in
     omega (arith, known_length c.requires.prepared, fits_size a.pool c.requires.prepared.fits)
 
 pub loop-left-preserved : goal.loop-left-preserved
@@ -44,7 +43,7 @@ loop-left-preserved c =
     let fewer : ones left ≡ ones (bit_and (left - 1) left) + 1 = rw (lowest_out left some) (ones_lowest left some) in
     let met = bit_and (get_or a.table.now (a.set - (left - bit_and (left - 1) left)) 0) (get_or a.givers.now (count_trailing_zeros 64 left) 0) in
     let added : c.if-met-eq0.ends ≡ bit_where met (left - bit_and (left - 1) left) =
-        elim c.if-met-eq0.branch [ then-met-eq0 w ↦ w.ends-is ∙ rw w.if-met-eq0.true | else-met-eq0 w ↦ w.ends-is ∙ rw (ne_eqb met 0 w.if-met-eq0.false) ] in
+    elim c.if-met-eq0.branch [ then-met-eq0 w ↦ w.ends-is ∙ rw w.if-met-eq0.true | else-met-eq0 w ↦ w.ends-is ∙ rw (ne_eqb met 0 w.if-met-eq0.false) ] in
     (rw added (look a.givers.now a.table.now a.set (omega arith) some c.loop-left.invariant.0 refl), omega (arith, c.loop-left.invariant.1))
 
 pub overflow_cast-result : goal.overflow_cast-result
