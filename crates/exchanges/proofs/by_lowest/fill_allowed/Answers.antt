@@ -17,31 +17,33 @@ use Rattle.exchanges.proofs.ByLowest.{Numbers, numbers_are, first_set, next_allo
 use Rattle.exchanges.proofs.by_lowest.fill_allowed.Goals.{else-cap-eq0, else-cap-lt2, then-cap-eq0, then-cap-lt2}
 use Rattle.exchanges.proofs.by_lowest.fill_allowed.Goals as goal
 
-module _ (g : Graph) (l n cap x : ℕ) (d : List ℕ) where
-  -- the vertex alone is put in
-  record Begun : Type 0 where
-    pub numbers : Numbers l n
-    pub room : 2 ^ n ≤ length (set d (2 ^ l) x)
-    pub alone : Alone g l (2 ^ n) cap (set d (2 ^ l) x)
+-- the vertex alone
+record Begun (g : Graph) (l n cap x : ℕ) (d : List ℕ) : Type 0 where
+  pub numbers : Numbers l n
+  pub room : 2 ^ n ≤ length (set d (2 ^ l) x)
+  pub alone : Alone g l (2 ^ n) cap (set d (2 ^ l) x)
 
-  begun : l < n → n ≤ 14 → 2 ^ n ≤ length d → Held false g l (2 ^ n) d → ((cap ≡ 0) × (x ≡ 0)) ⊎ ((cap ≢ 0) × (x ≡ 1 * 2 ^ l % 2 ^ 64)) → Begun
-  begun h few room held came = record {
-    numbers = numbers_are h few;
-    room = simp length-set room;
-    alone = alone_put g l n cap d h x room held (elim came [ inl w ↦ inl w | inr w ↦ inr (w.0, w.1 ∙ (numbers_are h few).first) ]);
-  }
+begun : {g : Graph} {l n : ℕ} (cap x : ℕ) {d : List ℕ} → l < n → n ≤ 14 → 2 ^ n ≤ length d → Held false g l (2 ^ n) d
+    → ((cap ≡ 0) × (x ≡ 0)) ⊎ ((cap ≢ 0) × (x ≡ 1 * 2 ^ l % 2 ^ 64)) → Begun g l n cap x d
+begun {g} {l} {n} cap x {d} h few room held came =
+    let numbers = numbers_are h few in
+    record {
+      numbers = numbers;
+      room = simp length-set room;
+      alone = alone_put g l n cap d h x room held (elim came [ inl w ↦ inl w | inr w ↦ inr (w.0, w.1 ∙ numbers.first) ]);
+    }
 
-  -- a set in its turn
-  record Turn (s : ℕ) (t : List ℕ) : Type 0 where
-    pub small : s < 2 ^ n
-    pub allowed : Allowed l cap s
-    pub filled : Changed (λ i. (i < 2 ^ n) × Begins l i) s (ends_within g cap) (set d (2 ^ l) x) t
+-- a set in its turn
+record Turn (g : Graph) (l n cap x : ℕ) (d : List ℕ) (s : ℕ) (t : List ℕ) : Type 0 where
+  pub small : s < 2 ^ n
+  pub allowed : Allowed l cap s
+  pub filled : Changed (λ i. (i < 2 ^ n) × Begins l i) s (ends_within g cap) (set d (2 ^ l) x) t
 
-  turn : {s : ℕ} {t : List ℕ} → Numbers l n → s < 1 * 2 ^ n % 2 ^ 64
-      → (s < 2 ^ n → Allowed l cap s) × Changed (λ i. (i < 2 ^ n) × Begins l i) s (ends_within g cap) (set d (1 * 2 ^ l % 2 ^ 64) x) t → Turn s t
-  turn {s} numbers less (allowed, filled) =
-      let small : s < 2 ^ n = omega (arith, numbers.sets) in
-      record { small = small; allowed = allowed small; filled = rw numbers.first at filled }
+turn : {g : Graph} {l n cap x : ℕ} {d : List ℕ} {s : ℕ} {t : List ℕ} → Begun g l n cap x d → s < 1 * 2 ^ n % 2 ^ 64
+    → (s < 2 ^ n → Allowed l cap s) × Changed (λ i. (i < 2 ^ n) × Begins l i) s (ends_within g cap) (set d (1 * 2 ^ l % 2 ^ 64) x) t → Turn g l n cap x d s t
+turn {n = n} {s = s} b less (allowed, filled) =
+    let small : s < 2 ^ n = omega (arith, b.numbers.sets) in
+    record { small = small; allowed = allowed small; filled = rw b.numbers.first at filled }
 
 pub bounds-table-first : goal.bounds-table-first
 bounds-table-first c = omega (arith, pow-lt c.requires.low_lt_size)
@@ -49,7 +51,7 @@ bounds-table-first c = omega (arith, pow-lt c.requires.low_lt_size)
 pub loop-set-init : goal.loop-set-init
 loop-set-init c =
     let a = c.args in
-    let b = begun (graph_of a.pool) a.low a.pool.size a.cap c.if-cap-eq0.table a.table.now c.requires.low_lt_size (fits_size a.pool c.requires.prepared.fits) c.requires.size_in_bounds c.requires.held
+    let b = begun a.cap c.if-cap-eq0.table c.requires.low_lt_size (fits_size a.pool c.requires.prepared.fits) c.requires.size_in_bounds c.requires.held
     (elim c.if-cap-eq0.branch [ then-cap-eq0 w ↦ inl (w.if-cap-eq0.true, w.table-is) | else-cap-eq0 w ↦ inr (w.if-cap-eq0.false, w.table-is) ]) in
     let n = b.numbers in
     let (allowed, many) = first_set {l = a.low} {cap = a.cap} {n = 2 ^ a.pool.size} {set = c.if-cap-lt2.set}
@@ -59,9 +61,9 @@ loop-set-init c =
 pub path_ends-found-requires : goal.path_ends-found-requires
 path_ends-found-requires c =
     let a = c.args in
-    let b = begun (graph_of a.pool) a.low a.pool.size a.cap c.if-cap-eq0.table a.table.now c.requires.low_lt_size (fits_size a.pool c.requires.prepared.fits) c.requires.size_in_bounds c.requires.held
+    let b = begun a.cap c.if-cap-eq0.table c.requires.low_lt_size (fits_size a.pool c.requires.prepared.fits) c.requires.size_in_bounds c.requires.held
     (elim c.if-cap-eq0.branch [ then-cap-eq0 w ↦ inl (w.if-cap-eq0.true, w.table-is) | else-cap-eq0 w ↦ inr (w.if-cap-eq0.false, w.table-is) ]) in
-    let s = turn (graph_of a.pool) a.low a.pool.size a.cap c.if-cap-eq0.table a.table.now b.numbers c.loop-set-test.true c.loop-set.invariant in
+    let s = turn b c.loop-set-test.true c.loop-set.invariant in
     let first = b.numbers.first in
     record {
       prepared = c.requires.prepared;
@@ -78,9 +80,9 @@ next_allowed-set-requires-clause-set_bound c = omega (arith, entries_few c.args.
 pub loop-set-preserved : goal.loop-set-preserved
 loop-set-preserved c =
     let a = c.args in
-    let b = begun (graph_of a.pool) a.low a.pool.size a.cap c.if-cap-eq0.table a.table.now c.requires.low_lt_size (fits_size a.pool c.requires.prepared.fits) c.requires.size_in_bounds c.requires.held
+    let b = begun a.cap c.if-cap-eq0.table c.requires.low_lt_size (fits_size a.pool c.requires.prepared.fits) c.requires.size_in_bounds c.requires.held
     (elim c.if-cap-eq0.branch [ then-cap-eq0 w ↦ inl (w.if-cap-eq0.true, w.table-is) | else-cap-eq0 w ↦ inr (w.if-cap-eq0.false, w.table-is) ]) in
-    let s = turn (graph_of a.pool) a.low a.pool.size a.cap c.if-cap-eq0.table a.table.now b.numbers c.loop-set-test.true c.loop-set.invariant in
+    let s = turn b c.loop-set-test.true c.loop-set.invariant in
     let found = c.path_ends-found.ensures in
     let next = c.next_allowed-set.ensures a.low b.numbers.first found.size s.allowed in (
       λ _. next_allowed s.allowed next,
