@@ -13,6 +13,7 @@ use crate::path_ends::bit_where;
 use pool::Pool;
 
 // The ends of the paths on every set.
+#[tactic(auto, using(crate::proofs::Given::known_length, crate::proofs::Given::known_givers))]
 pub(crate) fn fill_path_ends(pool: Pool, givers: &[u16], table: &mut [u16])
     requires prepared { Prepared pool givers.now }
     requires le_size { 3 ≤ pool.size }

@@ -5,19 +5,12 @@ use lib.Dec.{T}
 use Rattle.pool.specs.declared.value.Pool.{Pool}
 use Rattle.pool.specs.Value.{graph_of, pool_fits}
 use Rattle.pool.proofs.ValueLaws.{entries_are}
-use Rattle.exchanges.proofs.Given.{known_length, known_givers}
 use Rattle.exchanges.proofs.EightLanes.{eight_known, eight_more, eights}
 use Rattle.exchanges.proofs.abreast.fill_path_ends.Goals as goal
 
 -- eight more sets are sets of the pool
 block : (p : Pool) → T (pool_fits p) → 3 ≤ p.size → {base : ℕ} → base < 1 * 2 ^ p.size % 2 ^ 64 → base % 8 ≡ 0 → base + 8 ≤ 2 ^ p.size
 block p fits three less m = omega (arith, entries_are p fits, eights p.size three)
-
-pub bounds-givers-1 : goal.bounds-givers-1
-bounds-givers-1 c = omega (arith, known_length c.requires.prepared)
-
-pub bounds-givers-2 : goal.bounds-givers-2
-bounds-givers-2 c = omega (arith, known_length c.requires.prepared)
 
 pub common_ends-eight-requires-clause-base_bound : goal.common_ends-eight-requires-clause-base_bound
 common_ends-eight-requires-clause-base_bound c = block c.args.pool c.requires.prepared.fits c.requires.le_size c.loop-base-test.true c.loop-base.invariant.0
@@ -26,12 +19,6 @@ pub common_ends-eight-requires-clause-by_index : goal.common_ends-eight-requires
 common_ends-eight-requires-clause-by_index c =
     let (m, _, filled) = c.loop-base.invariant in
     eight_known c.loop-base.base m (graph_of c.args.pool) c.loop-base.table (λ i b. filled.done i b refl)
-
-pub all_ends-found-requires-clause-one_value : goal.all_ends-found-requires-clause-one_value
-all_ends-found-requires-clause-one_value c = known_givers c.requires.prepared 1 (omega arith)
-
-pub all_ends-found-requires-clause-two_value : goal.all_ends-found-requires-clause-two_value
-all_ends-found-requires-clause-two_value c = known_givers c.requires.prepared 2 (omega arith)
 
 pub store_eight-requires : goal.store_eight-requires
 store_eight-requires c = omega (arith, block c.args.pool c.requires.prepared.fits c.requires.le_size c.loop-base-test.true c.loop-base.invariant.0)
