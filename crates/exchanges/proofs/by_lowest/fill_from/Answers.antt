@@ -46,7 +46,8 @@ pub returns-then-low-pool-2 : goal.returns-then-low-pool-2
 returns-then-low-pool-2 c =
     let a = c.args in
     rw (one_shl 64 a.low (omega (arith, fits_size a.pool c.requires.prepared.fits)))
-    (chains_entered (graph_of a.pool) (fits_formed a.pool c.requires.prepared.fits) a.limits.cycle a.limits.chain a.low a.pool.size c.requires.low_lt_size c.if-low-pool-2.true c.requires.size_in_bounds
+    (chains_entered (graph_of a.pool) (fits_formed a.pool c.requires.prepared.fits) a.limits.cycle a.limits.chain a.low a.pool.size
+    c.requires.low_lt_size c.if-low-pool-2.true c.requires.size_in_bounds
     (rw c.limit_of-cap.ensures.limit at c.fill_allowed.ensures))
 
 pub keep_ends-requires-2-clause-spare : goal.keep_ends-requires-2-clause-spare

@@ -13,7 +13,8 @@ use Rattle.exchanges.proofs.ExchangesCall.{Passed, passed, leaves, filled}
 use Rattle.exchanges.proofs.exchanges.fill_exchanges.Goals as goal
 
 -- all tests were passed
-holds : (p : Pool) (l : Limits) (table : ℕ) {v : Verdict} → v ≡ verdict.Accepted → outcome_of v p ≡ tested (exchanges_tests p l table) 0 (accepted p) → Passed p l table
+holds : (p : Pool) (l : Limits) (table : ℕ) {v : Verdict}
+    → v ≡ verdict.Accepted → outcome_of v p ≡ tested (exchanges_tests p l table) 0 (accepted p) → Passed p l table
 holds p l table e told = passed p l table (outcome_accepted e told)
 
 pub returns-in-Refused : goal.returns-in-Refused
@@ -38,5 +39,6 @@ pub returns : goal.returns
 returns c =
     let a = c.args in
     let h = holds a.pool a.limits _ c.in_default.is c.test_exchanges-verdict.ensures in
-    let told = filled a.pool a.limits a.table.now (outcome_accepted c.in_default.is c.test_exchanges-verdict.ensures) (entries_are a.pool h.fits) c.fill_by_lowest.ensures in
-    record { outcome = told.0; left = told.1 }
+    let told = outcome_accepted c.in_default.is c.test_exchanges-verdict.ensures in
+    let done = filled a.pool a.limits a.table.now told (entries_are a.pool h.fits) c.fill_by_lowest.ensures in
+    record { outcome = done.0; left = done.1 }

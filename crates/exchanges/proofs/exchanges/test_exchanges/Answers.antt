@@ -40,10 +40,12 @@ pub returns-then-table-pool : goal.returns-then-table-pool
 returns-then-table-pool c =
     let a = c.args in
     let known = fits a.pool c.in_default.is c.test-pool_verdict.ensures in
-    table_short a.pool a.limits a.table known (within a.limits c.in_default-limits_verdict.is c.test-limits_verdict.ensures) (omega (arith, entries_are a.pool known))
+    table_short a.pool a.limits a.table known
+    (within a.limits c.in_default-limits_verdict.is c.test-limits_verdict.ensures) (omega (arith, entries_are a.pool known))
 
 pub returns : goal.returns
 returns c =
     let a = c.args in
     let known = fits a.pool c.in_default.is c.test-pool_verdict.ensures in
-    passes_all a.pool a.limits a.table known (within a.limits c.in_default-limits_verdict.is c.test-limits_verdict.ensures) (omega (arith, entries_are a.pool known))
+    passes_all a.pool a.limits a.table known
+    (within a.limits c.in_default-limits_verdict.is c.test-limits_verdict.ensures) (omega (arith, entries_are a.pool known))
