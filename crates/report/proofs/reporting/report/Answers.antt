@@ -20,12 +20,14 @@ pub returns-then-out-length : goal.returns-then-out-length
 returns-then-out-length c =
     let a = c.args in
     let composed = composed a.pool.now a.limits.now (omega arith) c.compose-length.ensures in
-    let told = no_room (text_of a.pool.now a.limits.now) a.out.now (omega (arith, text_length composed, composed.short)) (omega (arith, text_length composed)) in
+    let long = text_length composed in
+    let told = no_room (text_of a.pool.now a.limits.now) a.out.now (omega arith) (omega arith) in
     record { length = told.0; text = told.1.0; short = told.1.1 }
 
 pub returns : goal.returns
 returns c =
     let a = c.args in
     let composed = composed a.pool.now a.limits.now (omega arith) c.compose-length.ensures in
-    let told = room (text_of a.pool.now a.limits.now) a.out.now (omega (arith, text_length composed, composed.short)) (omega (arith, text_length composed)) composed.added (text_length composed) c.put.ensures.text in
+    let long = text_length composed in
+    let told = room (text_of a.pool.now a.limits.now) a.out.now (omega arith) (omega arith) composed.added long c.put.ensures.text in
     record { length = told.0; text = told.1.0; short = told.1.1 }
