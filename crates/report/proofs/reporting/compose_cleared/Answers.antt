@@ -3,7 +3,7 @@ use mathlib.Core.Path.{◌≡◌, sym, ap, ◌∙◌}
 use Prim.Native.Nat.{ℕ, ◌≤◌}
 use native.Mathlib.Omega.{arith}
 use lib.Dec.{T}
-use lib.ListN.{replicate, length-replicate}
+use lib.ListN.{length, replicate, length-replicate}
 use Rattle.clearing.specs.Clearing.{cleared_outcome, clearable_value}
 use Rattle.clearing.specs.computed.Cleared.{clear_outcome, plan_cleared}
 use Rattle.clearing.specs.declared.clearing.Cleared.{Cleared}
@@ -11,7 +11,7 @@ use Rattle.clearing.specs.declared.clearing.Cleared.TheVariants as cleared
 use Rattle.pool.specs.declared.limits.Limits.{Limits}
 use Rattle.pool.specs.declared.refusal.Refusal.{Refusal}
 use Rattle.pool.specs.declared.value.Pool.{Pool}
-use Rattle.pool.specs.Refusals.{number_of}
+use Rattle.pool.specs.Refusals.{Outcome, number_of}
 use Rattle.pool.specs.Value.{pool_fits}
 use Rattle.report.specs.Text.{refused_line}
 use Rattle.report.specs.inner.Writing.{cleared_text}
@@ -19,20 +19,24 @@ use Rattle.report.proofs.Adding.{then, roomier, said}
 use Rattle.report.proofs.Composing.{fitted, only_limits, PlanTold, told_plan, told_refused, records_few, plan_text_lem}
 use Rattle.report.proofs.reporting.compose_cleared.Goals as goal
 
--- what clearing answers, lent room for the tables and plans of all pools
+-- what clearing finds, lent room for the tables and plans of all pools
+abbrev found : Pool → Limits → Outcome Pool
+found p l = clearable_value p l (replicate 16384 0) (replicate 16384 0) (replicate 224 0)
+
 module _ (p : Pool) (l : Limits) (fits : T (pool_fits p)) where
   -- only the limits can be refused
-  only : clearable_value p l (replicate 16384 0) (replicate 16384 0) (replicate 224 0) ≡ fitted p l
+  only : found p l ≡ fitted p l
   only =
       let long = length-replicate {A = ℕ} 16384 0 in
       only_limits p l (replicate 16384 0) (replicate 16384 0) (replicate 224 0) fits long long (length-replicate {A = ℕ} 224 0)
 
-  module _ {answer : Cleared} (outcome : cleared_outcome answer ≡ clear_outcome l (clearable_value p l (replicate 16384 0) (replicate 16384 0) (replicate 224 0))) where
-    -- a plan was told
-    told : {served records : ℕ} {plan : List ℕ} → answer ≡ cleared.Plan served records
-        → plan ≡ plan_cleared l (clearable_value p l (replicate 16384 0) (replicate 16384 0) (replicate 224 0)) (replicate 224 0)
-        → PlanTold p l served records (replicate 224 0) plan
-    told is plan = told_plan p l only (replicate 224 0) (sym (ap cleared_outcome is) ∙ outcome) plan
+  module _ {answer : Cleared} (outcome : cleared_outcome answer ≡ clear_outcome l (found p l)) where
+    -- a plan was told, of at most 14 records
+    told : {served records : ℕ} {plan : List ℕ} → answer ≡ cleared.Plan served records → plan ≡ plan_cleared l (found p l) (replicate 224 0)
+        → length plan ≡ length {A = ℕ} (replicate 224 0) → PlanTold p l served records (replicate 224 0) plan × (records ≤ 14)
+    told is left same =
+        let plan = told_plan p l only (replicate 224 0) (sym (ap cleared_outcome is) ∙ outcome) left in
+        (plan, records_few p l fits plan (same ∙ length-replicate {A = ℕ} 224 0))
 
     -- or a refusal
     told_no : {r : Refusal} → answer ≡ cleared.Refused r → (r.at ≡ 0) × (refused_line (number_of r.cause) r.at ≡ cleared_text p l)
@@ -41,8 +45,7 @@ module _ (p : Pool) (l : Limits) (fits : T (pool_fits p)) where
 pub put_records-requires : goal.put_records-requires
 put_records-requires c =
     let k = c.clear_value-cleared in
-    let told = told c.args.value c.args.limits c.requires.t k.ensures.outcome c.in-Plan.is k.ensures.plan in
-    let few : c.in-Plan.records ≤ 14 = records_few c.args.value c.args.limits c.requires.t told (omega (arith, length-replicate {A = ℕ} 224 0)) in
+    let (plan, few) = told c.args.value c.args.limits c.requires.t k.ensures.outcome c.in-Plan.is k.ensures.plan k.auto.plan in
     record { records_in_bounds = omega (arith, length-replicate {A = ℕ} 224 0); records_in_bounds_2 = omega arith }
 
 pub put_refused-requires-clause-at_bound : goal.put_refused-requires-clause-at_bound
@@ -52,9 +55,8 @@ put_refused-requires-clause-at_bound c =
 pub returns-in-Plan : goal.returns-in-Plan
 returns-in-Plan c =
     let k = c.clear_value-cleared in
-    let told = told c.args.value c.args.limits c.requires.t k.ensures.outcome c.in-Plan.is k.ensures.plan in
-    let few : c.in-Plan.records ≤ 14 = records_few c.args.value c.args.limits c.requires.t told (omega (arith, length-replicate {A = ℕ} 224 0)) in
-    roomier (omega arith) (said (plan_text_lem c.args.value c.args.limits c.requires.t told) (then c.put_served-end.ensures c.put_records.ensures))
+    let (plan, few) = told c.args.value c.args.limits c.requires.t k.ensures.outcome c.in-Plan.is k.ensures.plan k.auto.plan in
+    roomier (omega arith) (said (plan_text_lem c.args.value c.args.limits c.requires.t plan) (then c.put_served-end.ensures c.put_records.ensures))
 
 pub returns-in-Refused : goal.returns-in-Refused
 returns-in-Refused c =
