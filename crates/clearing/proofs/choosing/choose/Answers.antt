@@ -1,4 +1,3 @@
-use borrow.Author.Rules.{rules}
 use borrow.Rule.Slice.PartMut.{same_len_mid}
 use mathlib.Core.List.{List}
 use mathlib.Core.Logic.{◌≢◌}
@@ -28,31 +27,31 @@ module _ {p : Pool} {l : Limits} {givers exchanges best : List ℕ} (k : Choosin
     (m : MadeOf p l plan₀ plan free records)
     (some : get_or best free 0 ≢ 0)
   where
-  gain : 0 < best_of (worth_in p) (graph_of p) l.cycle l.chain free
-  gain = omega (arith, best_at k.hold free m.inside)
+    gain : 0 < best_of (worth_in p) (graph_of p) l.cycle l.chain free
+    gain = omega (arith, best_at k.hold free m.inside)
 
-  nonempty : 0 < free
-  nonempty = best_nonempty (graph_of p) l.cycle l.chain (worth_in p) gain
+    nonempty : 0 < free
+    nonempty = best_nonempty (graph_of p) l.cycle l.chain (worth_in p) gain
 
-  -- so there is room for a record
-  room : records < p.size
-  room = made_room (graph_of p) l.cycle l.chain (small_fits (fits_size p k.fits)) (worth_in p) m gain
+    -- so there is room for a record
+    room : records < p.size
+    room = made_room (graph_of p) l.cycle l.chain (small_fits (fits_size p k.fits)) (worth_in p) m gain
 
-  -- a step was made
-  module _ {used : ℕ} {bytes dead : List ℕ}
-      (step : Stepped (graph_of p) (pool_field p exchanges best free) (next_in plan records) used bytes)
-      (clean : Clean (free - 2 ^ lowest free) dead)
-    where
-    -- no exchange is taken
-    skips : used ≡ 0 → {v next : ℕ} → v ≡ lowest_below 16 free → next ≡ without_vertex 16 free v
-        → (next < free) × (MadeOf p l plan₀ (with_next plan records bytes) next records × Clean next dead)
-    skips none found e =
-        step_none (graph_of p) l.cycle l.chain (small_fits (fits_size p k.fits)) (worth_in p) (means k.hold free m.inside) m gain step
-        none (omega (arith, m.inside, entries_few p k.fits)) found e clean
+    -- a step was made
+    module _ {used : ℕ} {bytes dead : List ℕ}
+        (step : Stepped (graph_of p) (pool_field p exchanges best free) (next_in plan records) used bytes)
+        (clean : Clean (free - 2 ^ lowest free) dead)
+      where
+        -- no exchange is taken
+        skips : used ≡ 0 → {v next : ℕ} → v ≡ lowest_below 16 free → next ≡ without_vertex 16 free v
+            → (next < free) × (MadeOf p l plan₀ (with_next plan records bytes) next records × Clean next dead)
+        skips none found e =
+            step_none (graph_of p) l.cycle l.chain (small_fits (fits_size p k.fits)) (worth_in p) (means k.hold free m.inside) m gain step
+            none (omega (arith, m.inside, entries_few p k.fits)) found e clean
 
-    -- one is
-    goes_on : used ≢ 0 → (used ≤ free) × (free - used < free) × (MadeOf p l plan₀ (with_next plan records bytes) (free - used) (records + 1) × Clean (free - used) dead)
-    goes_on one = step_one (graph_of p) l.cycle l.chain (small_fits (fits_size p k.fits)) (worth_in p) (means k.hold free m.inside) m gain step one clean
+        -- one is
+        goes_on : used ≢ 0 → (used ≤ free) × (free - used < free) × (MadeOf p l plan₀ (with_next plan records bytes) (free - used) (records + 1) × Clean (free - used) dead)
+        goes_on one = step_one (graph_of p) l.cycle l.chain (small_fits (fits_size p k.fits)) (worth_in p) (means k.hold free m.inside) m gain step one clean
 
 -- the plan buffer keeps its length
 same_plan : (plan : List ℕ) (records : ℕ) (bytes : List ℕ) → length bytes ≡ length (next_in plan records) → length (with_next plan records bytes) ≡ length plan
@@ -80,9 +79,10 @@ loop-free-smaller-then-used-eq0 c =
 
 pub loop-free-preserved-then-used-eq0 : goal.loop-free-preserved-then-used-eq0
 loop-free-preserved-then-used-eq0 c =
-    let t = c.take_exchange-set.ensures in
-    (same_plan c.loop-free.plan c.loop-free.records _ c.take_exchange-set.auto.bytes ∙ c.loop-free.invariant.0,
-     (skips c.requires.choosing c.loop-free.invariant.1.0 c.loop-free-test.true t.stepped t.clean c.if-used-eq0.true c.lowest.ensures c.without-free.ensures).1)
+    let t = c.take_exchange-set.ensures in (
+      same_plan c.loop-free.plan c.loop-free.records _ c.take_exchange-set.auto.bytes ∙ c.loop-free.invariant.0,
+      (skips c.requires.choosing c.loop-free.invariant.1.0 c.loop-free-test.true t.stepped t.clean c.if-used-eq0.true c.lowest.ensures c.without-free.ensures).1,
+    )
 
 pub overflow_sub-free : goal.overflow_sub-free
 overflow_sub-free c =
@@ -96,9 +96,10 @@ loop-free-smaller c =
 
 pub loop-free-preserved : goal.loop-free-preserved
 loop-free-preserved c =
-    let t = c.take_exchange-set.ensures in
-    (same_plan c.loop-free.plan c.loop-free.records _ c.take_exchange-set.auto.bytes ∙ c.loop-free.invariant.0,
-     (goes_on c.requires.choosing c.loop-free.invariant.1.0 c.loop-free-test.true t.stepped t.clean c.if-used-eq0.false).2)
+    let t = c.take_exchange-set.ensures in (
+      same_plan c.loop-free.plan c.loop-free.records _ c.take_exchange-set.auto.bytes ∙ c.loop-free.invariant.0,
+      (goes_on c.requires.choosing c.loop-free.invariant.1.0 c.loop-free-test.true t.stepped t.clean c.if-used-eq0.false).2,
+    )
 
 pub returns : goal.returns
 returns c =

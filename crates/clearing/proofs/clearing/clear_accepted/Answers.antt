@@ -30,21 +30,21 @@ module _ {p : Pool} {l : Limits} {exchanges best plan filled bests : List ℕ} (
     (first : filled ≡ exchanges_left p l exchanges)
     (second : bests ≡ best_left p filled best)
   where
-  exchanges_are : filled ≡ exchanges_of p l exchanges
-  exchanges_are = exchanges_filled p l t.fits exchanges t.within t.exchanges_long first
+    exchanges_are : filled ≡ exchanges_of p l exchanges
+    exchanges_are = exchanges_filled p l t.fits exchanges t.within t.exchanges_long first
 
-  bests_are : bests ≡ bests_of p l best
-  bests_are = best_filled p l t.fits exchanges exchanges_are best (omega (arith, t.exchanges_long)) t.best_long second
+    bests_are : bests ≡ bests_of p l best
+    bests_are = best_filled p l t.fits exchanges exchanges_are best (omega (arith, t.exchanges_long)) t.best_long second
 
-  hold : TablesHold p l filled bests
-  hold = filled_hold p l t.fits exchanges exchanges_are best bests_are
+    hold : TablesHold p l filled bests
+    hold = filled_hold p l t.fits exchanges exchanges_are best bests_are
 
-  -- the best of all, as code looks it up, tells the members served, and they fit a byte
-  told : get_or bests (1 * 2 ^ p.size % 2 ^ 64 - 1) 0 / per_member ≡ served (graph_of p) (flat (plan_of p l))
-  told = rw (entries_are p t.fits) (last_served p l t.fits best bests_are)
+    -- the best of all, as code looks it up, tells the members served, and they fit a byte
+    told : get_or bests (1 * 2 ^ p.size % 2 ^ 64 - 1) 0 / per_member ≡ served (graph_of p) (flat (plan_of p l))
+    told = rw (entries_are p t.fits) (last_served p l t.fits best bests_are)
 
-  few : get_or bests (1 * 2 ^ p.size % 2 ^ 64 - 1) 0 / per_member ≤ 14
-  few = rw (entries_are p t.fits) (last_few p l t.fits best bests_are)
+    few : get_or bests (1 * 2 ^ p.size % 2 ^ 64 - 1) 0 / per_member ≤ 14
+    few = rw (entries_are p t.fits) (last_few p l t.fits best bests_are)
 
 pub write_plan-records-requires : goal.write_plan-records-requires
 write_plan-records-requires c =
