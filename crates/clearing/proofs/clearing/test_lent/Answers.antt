@@ -14,7 +14,8 @@ use Rattle.clearing.proofs.ClearingCode.{behind, best_short, plan_short, passes_
 use Rattle.clearing.proofs.clearing.test_lent.Goals as goal
 
 -- 6, 7 and 8 are passed, so the pool fits, and there are as many entries as code works out
-past : (p : Pool) (l : Limits) (exchanges : ℕ) {v : Verdict} → v ≡ verdict.Accepted → outcome_of v p ≡ tested (exchanges_tests p l exchanges) 0 (accepted p)
+past : (p : Pool) (l : Limits) (exchanges : ℕ) {v : Verdict} → v ≡ verdict.Accepted
+    → outcome_of v p ≡ tested (exchanges_tests p l exchanges) 0 (accepted p)
     → (accepted p ≡ tested (exchanges_tests p l exchanges) 0 (accepted p)) × (p.size ≤ 14) × (1 * 2 ^ p.size % 2 ^ 64 ≡ 2 ^ p.size)
 past p l exchanges e f =
     let told = outcome_accepted e f in

@@ -20,7 +20,8 @@ pub loop-u-preserved : goal.loop-u-preserved
 loop-u-preserved c =
     let a = c.args in
     let u = c.loop-u.u in
-    (search rules, below_more _ _ c.loop-u.invariant.1 (takers_pass a.size a.altruists a.gives.now u (c.type_inv.gives u).fits (grind (arith, nat_tests)) c.if-takers-allowed.false))
+    let fit = takers_pass a.size a.altruists a.gives.now u (c.type_inv.gives u).fits (grind (arith, nat_tests)) c.if-takers-allowed.false in
+    (search rules, below_more _ _ c.loop-u.invariant.1 fit)
 
 pub returns : goal.returns
 unfolding arcs_fit

@@ -42,4 +42,5 @@ loop-s-preserved c =
     let w = c.requires.worths in
     let f = worth_by c.args.each.now c.args.size in
     let below : c.loop-s.s < 2 ^ c.args.size = inside w c.loop-s-test.true in
-    (search rules, omega arith, search rules, tabulate_store f c.loop-s.s _ (omega (arith, length-set {A = ℕ})) c.loop-s.invariant.3 (stored w c.loop-s-test.true c.loop-s.invariant.0 _ c.loop-s.invariant.3))
+    let worth = stored w c.loop-s-test.true c.loop-s.invariant.0 _ c.loop-s.invariant.3 in
+    (search rules, omega arith, search rules, tabulate_store f c.loop-s.s _ (omega (arith, length-set {A = ℕ})) c.loop-s.invariant.3 worth)
