@@ -1,5 +1,6 @@
 //! The workshop program where files can't be read and output can't be written. The
-//! program tells a fault on standard error, and only the script gives it a status.
+//! program tells a fault on standard error, and but for output that nobody reads only the script
+//! gives it a status.
 
 use std::fs::{self, OpenOptions};
 use std::io::{pipe, ErrorKind, Write};

@@ -22,7 +22,10 @@ loop-u-preserved c =
     let test = c.has_arc.ensures in (
       search rules,
       search rules,
-      elim c.if-has_arc.branch [ then-has_arc w ↦ made_with p c.loop-u.invariant.2 test 16 (omega arith) w.if-has_arc.true (ap (λ (x : VertexSet). x.0) w.givers-is ∙ w.with-givers.ensures) | else-has_arc w ↦ made_without p c.loop-u.invariant.2 test w.if-has_arc.false (ap (λ (x : VertexSet). x.0) w.givers-is) ],
+      elim c.if-has_arc.branch [
+        | then-has_arc w ↦ made_with p c.loop-u.invariant.2 test 16 (omega arith) w.if-has_arc.true (ap (λ (x : VertexSet). x.0) w.givers-is ∙ w.with-givers.ensures)
+        | else-has_arc w ↦ made_without p c.loop-u.invariant.2 test w.if-has_arc.false (ap (λ (x : VertexSet). x.0) w.givers-is)
+      ],
     )
 
 pub returns : goal.returns

@@ -7,7 +7,7 @@ use Rattle.pool.proofs.ValueLaws.{takers_pass, takers_fail}
 use Rattle.kep.proofs.ListLaws.{none_fails, one_fails}
 use Rattle.pool.proofs.value.arcs_fit.Goals as goal
 
--- what the code allows are the takers allowed
+-- That what the code allows are the takers allowed is left to the tests of numbers, in both answers.
 pub returns-then-takers-allowed : goal.returns-then-takers-allowed
 unfolding arcs_fit
 returns-then-takers-allowed c =

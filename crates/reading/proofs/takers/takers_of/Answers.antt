@@ -17,7 +17,10 @@ loop-v-preserved c =
     let here = c.requires.u_in_bounds in
     let read = c.gives.ensures in (
       search rules,
-      elim c.if-gives.branch [ then-gives w ↦ takers_add c.args.bytes.now c.args.u few here (omega arith) read w.if-gives.true c.loop-v.invariant.1 (ap (λ (x : VertexSet). x.0) w.set-is ∙ w.with-set.ensures) | else-gives w ↦ takers_skip c.args.bytes.now c.args.u few here (omega arith) read w.if-gives.false c.loop-v.invariant.1 (ap (λ (x : VertexSet). x.0) w.set-is) ],
+      elim c.if-gives.branch [
+        | then-gives w ↦ takers_add c.args.bytes.now c.args.u few here (omega arith) read w.if-gives.true c.loop-v.invariant.1 (ap (λ (x : VertexSet). x.0) w.set-is ∙ w.with-set.ensures)
+        | else-gives w ↦ takers_skip c.args.bytes.now c.args.u few here (omega arith) read w.if-gives.false c.loop-v.invariant.1 (ap (λ (x : VertexSet). x.0) w.set-is)
+      ],
     )
 
 pub returns : goal.returns

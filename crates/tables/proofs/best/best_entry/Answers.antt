@@ -36,7 +36,10 @@ loop-t-smaller c = step_below _ _ (omega arith)
 
 pub loop-t-preserved : goal.loop-t-preserved
 loop-t-preserved c =
-    elim c.if-found-sum.branch [ then-found-sum w ↦ trying_next (omega arith) c.loop-t.invariant (omega arith) | else-found-sum w ↦ trying_next (omega arith) c.loop-t.invariant (omega arith) ]
+    elim c.if-found-sum.branch [
+      | then-found-sum w ↦ trying_next (omega arith) c.loop-t.invariant (omega arith)
+      | else-found-sum w ↦ trying_next (omega arith) c.loop-t.invariant (omega arith)
+    ]
 
 pub returns : goal.returns
 unfolding next_best

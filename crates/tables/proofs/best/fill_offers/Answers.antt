@@ -18,7 +18,10 @@ pub loop-t-preserved : goal.loop-t-preserved
 loop-t-preserved c =
     let offer_is : let a = c.args in c.if-exchanges-t-eq0.offers ≡ offer_of a.worths.now a.exchanges.now c.loop-t.t = let v : ℕ → ℕ = λ t. get_or c.args.worths.now t 0 in
     let ex = c.args.exchanges.now in
-    elim c.if-exchanges-t-eq0.branch [ then-exchanges-t-eq0 w ↦ offer_none v ex c.loop-t.t w.if-exchanges-t-eq0.true w.offers-is | else-exchanges-t-eq0 w ↦ offer_worth v ex c.loop-t.t w.if-exchanges-t-eq0.false w.offers-is ] in
+    elim c.if-exchanges-t-eq0.branch [
+      | then-exchanges-t-eq0 w ↦ offer_none v ex c.loop-t.t w.if-exchanges-t-eq0.true w.offers-is
+      | else-exchanges-t-eq0 w ↦ offer_worth v ex c.loop-t.t w.if-exchanges-t-eq0.false w.offers-is
+    ] in
     let a = c.args in
     let f = offer_of a.worths.now a.exchanges.now in
     (search rules, search rules, rw (c.loop-t.invariant.2, offer_is) (tabulate_more f c.loop-t.t a.offers.now (omega arith)))
