@@ -9,26 +9,8 @@ use Rattle.exchanges.proofs.abreast.store_eight.Goals as goal
 pub loop-j-init : goal.loop-j-init
 loop-j-init c = (omega arith, rw add-zero (changed_none c.args.base (λ i b h. absurd (omega arith))))
 
-pub offset_bounds-found-j : goal.offset_bounds-found-j
-offset_bounds-found-j c = omega arith
-
-pub bounds-found-j : goal.bounds-found-j
-bounds-found-j c = omega arith
-
-pub overflow_add-table : goal.overflow_add-table
-overflow_add-table c = omega arith
-
-pub offset_bounds-table-base : goal.offset_bounds-table-base
-offset_bounds-table-base c = omega arith
-
 pub bounds-table-base : goal.bounds-table-base
 bounds-table-base c = omega (arith, c.loop-j.invariant.1.same_length)
-
-pub overflow_add-j : goal.overflow_add-j
-overflow_add-j c = omega arith
-
-pub loop-j-smaller : goal.loop-j-smaller
-loop-j-smaller c = omega arith
 
 pub loop-j-preserved : goal.loop-j-preserved
 loop-j-preserved c =

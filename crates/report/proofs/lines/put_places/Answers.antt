@@ -22,12 +22,6 @@ put_after-end-requires c =
       word_in_bounds = omega arith;
     }
 
-pub overflow_add-i : goal.overflow_add-i
-overflow_add-i c = omega arith
-
-pub loop-i-smaller : goal.loop-i-smaller
-loop-i-smaller c = omega arith
-
 pub loop-i-preserved : goal.loop-i-preserved
 unfolding place_text
 loop-i-preserved c =

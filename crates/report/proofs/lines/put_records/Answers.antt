@@ -10,21 +10,6 @@ use Rattle.report.proofs.lines.put_records.Goals as goal
 pub loop-k-init : goal.loop-k-init
 loop-k-init c = let a = c.args in (omega arith, going_start (omega arith) (lines_start a.plan.now a.records))
 
-pub overflow_mul-from : goal.overflow_mul-from
-overflow_mul-from c = omega arith
-
-pub overflow_add-from : goal.overflow_add-from
-overflow_add-from c = omega arith
-
-pub slice_bounds-put_record-count : goal.slice_bounds-put_record-count
-slice_bounds-put_record-count c = omega arith
-
-pub slice_bounds-put_record-start : goal.slice_bounds-put_record-start
-slice_bounds-put_record-start c = omega arith
-
-pub slice_bounds-put_record-end : goal.slice_bounds-put_record-end
-slice_bounds-put_record-end c = omega arith
-
 pub put_record-end-requires : goal.put_record-end-requires
 put_record-end-requires c =
     let plan = c.args.plan.now in
@@ -33,12 +18,6 @@ put_record-end-requires c =
       bytes_len = ap length (part 16 k plan) ∙ part_length 16 k plan (omega (arith, c.requires.records_in_bounds));
       at_in_bounds = omega (arith, c.requires.records_in_bounds_2, c.loop-k.invariant.1.short, c.loop-k.invariant.1.same);
     }
-
-pub overflow_add-k : goal.overflow_add-k
-overflow_add-k c = omega arith
-
-pub loop-k-smaller : goal.loop-k-smaller
-loop-k-smaller c = omega arith
 
 pub loop-k-preserved : goal.loop-k-preserved
 loop-k-preserved c =

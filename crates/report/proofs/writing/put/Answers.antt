@@ -9,12 +9,6 @@ use Rattle.report.proofs.writing.put.Goals as goal
 pub loop-i-init : goal.loop-i-init
 loop-i-init c = let a = c.args in (omega arith, paste-zero a.text.now a.at a.word.now, refl)
 
-pub overflow_add-text : goal.overflow_add-text
-overflow_add-text c = omega arith
-
-pub bounds-text-at : goal.bounds-text-at
-bounds-text-at c = omega arith
-
 pub loop-i-preserved : goal.loop-i-preserved
 loop-i-preserved c =
     let a = c.args in
@@ -26,9 +20,6 @@ loop-i-preserved c =
           ∙ ap (paste a.text.now a.at a.word.now) (sym next),
       length-set c.loop-i.text (a.at + i) (get_or a.word.now i 0) ∙ c.loop-i.invariant.2,
     )
-
-pub overflow_add-result : goal.overflow_add-result
-overflow_add-result c = omega arith
 
 pub returns : goal.returns
 returns c =

@@ -19,17 +19,8 @@ offset_bounds-offers-t c = omega (arith, part_le c.loop-t.invariant.inside)
 pub bounds-offers-t : goal.bounds-offers-t
 bounds-offers-t c = omega (arith, part_le c.loop-t.invariant.inside)
 
-pub offset_bounds-table-rest : goal.offset_bounds-table-rest
-offset_bounds-table-rest c = omega arith
-
-pub bounds-table-rest : goal.bounds-table-rest
-bounds-table-rest c = omega arith
-
 pub overflow_add-sum : goal.overflow_add-sum
 overflow_add-sum c = sum_fits (c.type_inv.offers _) (c.type_inv.table _)
-
-pub overflow_sub-t : goal.overflow_sub-t
-overflow_sub-t c = omega arith
 
 pub loop-t-smaller : goal.loop-t-smaller
 loop-t-smaller c = step_below _ _ (omega arith)
