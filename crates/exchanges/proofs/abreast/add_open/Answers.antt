@@ -7,9 +7,6 @@ use Rattle.exchanges.proofs.abreast.add_open.Goals as goal
 pub loop-j-init : goal.loop-j-init
 loop-j-init c = (omega arith, changed_none 0 (λ i b _. absurd (omega arith)))
 
-pub bounds-eight-j : goal.bounds-eight-j
-bounds-eight-j c = omega (arith, c.loop-j.invariant.1.same_length)
-
 pub loop-j-preserved : goal.loop-j-preserved
 loop-j-preserved c =
     let inv = c.loop-j.invariant.1 in

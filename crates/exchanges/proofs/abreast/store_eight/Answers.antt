@@ -9,9 +9,6 @@ use Rattle.exchanges.proofs.abreast.store_eight.Goals as goal
 pub loop-j-init : goal.loop-j-init
 loop-j-init c = (omega arith, rw add-zero (changed_none c.args.base (λ i b h. absurd (omega arith))))
 
-pub bounds-table-base : goal.bounds-table-base
-bounds-table-base c = omega (arith, c.loop-j.invariant.1.same_length)
-
 pub loop-j-preserved : goal.loop-j-preserved
 loop-j-preserved c =
     let a = c.args in

@@ -1,9 +1,6 @@
 use native.Mathlib.Omega.{arith}
-use Rattle.pool.proofs.ValueLaws.{fits_size, entries_are}
+use Rattle.pool.proofs.ValueLaws.{entries_are}
 use Rattle.exchanges.proofs.by_lowest.begin_table.Goals as goal
-
-pub overflow_mul-enough : goal.overflow_mul-enough
-overflow_mul-enough c = omega (arith, c.limit_of-cap.ensures.small)
 
 pub fill_path_ends-requires : goal.fill_path_ends-requires
 fill_path_ends-requires c =
@@ -15,9 +12,6 @@ fill_path_ends-requires c =
 
 pub returns-then-pool-enough : goal.returns-then-pool-enough
 returns-then-pool-enough c = c.fill_path_ends.ensures
-
-pub overflow_shl-pool : goal.overflow_shl-pool
-overflow_shl-pool c = omega (arith, fits_size c.args.pool c.requires.prepared.fits)
 
 pub clear_table-requires : goal.clear_table-requires
 clear_table-requires c = omega (arith, entries_are c.args.pool c.requires.prepared.fits, c.requires.size_in_bounds)

@@ -6,9 +6,6 @@ use Rattle.exchanges.proofs.by_lowest.clear_table.Goals as goal
 pub loop-s-init : goal.loop-s-init
 loop-s-init c = (omega arith, changed_none 0 (λ i b _. absurd (omega arith)))
 
-pub bounds-table-s : goal.bounds-table-s
-bounds-table-s c = omega (arith, c.loop-s.invariant.1.same_length)
-
 pub loop-s-preserved : goal.loop-s-preserved
 loop-s-preserved c = (omega arith, changed_next c.loop-s.invariant.1 (omega arith) refl refl)
 

@@ -3,7 +3,6 @@ use Prim.Native.Nat.{◌^◌}
 use native.Mathlib.Omega.{arith}
 use lib.ListN.{length}
 use Rattle.pool.specs.Value.{graph_of}
-use Rattle.pool.proofs.ValueLaws.{fits_size}
 use Rattle.kep.specs.computed.Table.{entry}
 use Rattle.exchanges.proofs.Changed.{changed_all}
 use Rattle.exchanges.proofs.ByLowest.{before_none, still_held, before_more, before_all}
@@ -24,12 +23,6 @@ fill_from-requires c =
       low_lt_size = c.loop-low-test.true;
       held = still_held (graph_of a.pool) a.limits.cycle a.limits.chain (2 ^ a.pool.size) c.begin_table-filled.result c.begin_table-filled.ensures c.loop-low.invariant.1;
     }
-
-pub overflow_add-low : goal.overflow_add-low
-overflow_add-low c = omega (arith, c.loop-low-test.true, fits_size c.args.pool c.requires.prepared.fits)
-
-pub loop-low-smaller : goal.loop-low-smaller
-loop-low-smaller c = omega (arith, c.loop-low-test.true)
 
 pub loop-low-preserved : goal.loop-low-preserved
 loop-low-preserved c =

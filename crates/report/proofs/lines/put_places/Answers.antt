@@ -12,9 +12,6 @@ pub returns-then-place : goal.returns-then-place
 returns-then-place c =
     going_end (places_stop c.args.places.now c.loop-i.i (omega arith) c.if-place.true) (omega arith) c.loop-i.invariant.1
 
-pub overflow_cast-place : goal.overflow_cast-place
-overflow_cast-place c = omega (arith, c.type_inv.places c.loop-i.i)
-
 pub put_after-end-requires : goal.put_after-end-requires
 put_after-end-requires c =
     record {

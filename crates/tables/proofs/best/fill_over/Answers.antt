@@ -7,9 +7,6 @@ use Rattle.tables.specs.Calls.{marked}
 use Rattle.tables.proofs.BestCode.{best_fits, offers_best, entries_written}
 use Rattle.tables.proofs.best.fill_over.Goals as goal
 
-pub overflow_shl-entries : goal.overflow_shl-entries
-overflow_shl-entries c = omega (arith, c.requires.worths.few)
-
 pub fill_offers-requires : goal.fill_offers-requires
 fill_offers-requires c =
     let entries_are : 1 * 2 ^ c.args.size % 2 ^ 64 ≡ 2 ^ c.args.size = one_shl 64 c.args.size (omega (arith, c.requires.worths.few)) in
