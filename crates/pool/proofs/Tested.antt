@@ -5,12 +5,9 @@ use mathlib.Core.Path.{◌≡◌, refl, sym, ap, ◌∙◌}
 use Prim.Native.Nat.{ℕ}
 use native.Mathlib.Omega.{arith}
 use lib.Dec.{T}
-use Rattle.pool.specs.declared.refusal.Refusal.{Refusal}
-use Rattle.pool.specs.declared.refusal.Verdict.{Verdict}
-use Rattle.pool.specs.declared.refusal.Verdict.TheVariants as verdict
 use Rattle.kep.specs.Lists.{Each, none, also}
 use Rattle.pool.specs.Causes.{Pass}
-use Rattle.pool.specs.Refusals.{number_of, Outcome, accepted, refused, outcome_of, tested, and_then}
+use Rattle.pool.specs.Refusals.{Outcome, accepted, refused, tested, and_then}
 use Rattle.kep.proofs.Tests.{from_true, from_false}
 use Rattle.kep.proofs.Each.{each_first}
 
@@ -75,14 +72,6 @@ all_held {A} {a} (t ∷ ts) at o e = go t.1 refl e (all_held ts at o)
 -- the first of them
 pub held : {A : Type 0} (n : ℕ) (b : Bool) (ts : List (ℕ × Bool)) (at : ℕ) (a : A) {c : A} → tested ((n, b) ∷ ts) at (accepted a) ≡ accepted c → T b
 held n b ts at a e = each_first (all_held ((n, b) ∷ ts) at (accepted a) e).0
-
--- the outcome of a verdict that is known
-pub outcome_accepted : {A : Type 0} {v : Verdict} {a : A} {o : Outcome A} → v ≡ verdict.Accepted → outcome_of v a ≡ o → accepted a ≡ o
-outcome_accepted {a = a} e f = sym (ap (λ (w : Verdict). outcome_of w a) e) ∙ f
-
-pub outcome_refused : {A : Type 0} {v : Verdict} (a : A) {o : Outcome A} {r : Refusal} → v ≡ verdict.Refused r → outcome_of v a ≡ o
-    → refused (number_of r.cause) r.at ≡ o
-outcome_refused a e f = sym (ap (λ (w : Verdict). outcome_of w a) e) ∙ f
 
 -- ---- tests known one by one
 

@@ -1,9 +1,7 @@
 -- Limits: each 0 to 14.
 use Rattle.std.specs.Prelude.{Bool, ◌&&◌, [], ◌∷◌, ℕ, leb}
 use Rattle.pool.specs.declared.limits.Limits.{Limits}
-use Rattle.pool.specs.declared.limits.LimitsAnswer.{LimitsAnswer}
-use Rattle.pool.specs.declared.limits.LimitsAnswer.TheVariants as answer
-use Rattle.pool.specs.Refusals.{number_of, Outcome, accepted, refused, tested}
+use Rattle.pool.specs.Refusals.{Outcome, accepted, tested}
 
 -- the limits of two numbers
 abbrev pub limits_of : ℕ → ℕ → Limits
@@ -16,8 +14,3 @@ limits_fit l = leb l.cycle 14 && leb l.chain 14
 -- the test of limits by themselves
 unfoldable pub test_limits : Limits → Outcome Limits
 test_limits l = tested ((7, limits_fit l) ∷ []) 0 (accepted l)
-
--- what the answer of the constructor stands for
-abbrev pub limits_outcome : LimitsAnswer → Outcome Limits
-limits_outcome (answer.Accepted l) = accepted l
-limits_outcome (answer.Refused r) = refused (number_of r.cause) r.at

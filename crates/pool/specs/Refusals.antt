@@ -1,9 +1,8 @@
 -- The causes of the documents by their numbers, and what a call tells.
-use Rattle.std.specs.Prelude.{Bool, true, false, List, [], ◌∷◌, ℕ}
+use Rattle.std.specs.Prelude.{Bool, true, false, List, [], ◌∷◌, ℕ, Result, Ok, Err}
 use Rattle.pool.specs.declared.refusal.Cause.{Cause}
 use Rattle.pool.specs.declared.refusal.Cause.TheVariants as cause
-use Rattle.pool.specs.declared.refusal.Verdict.{Verdict}
-use Rattle.pool.specs.declared.refusal.Verdict.TheVariants as verdict
+use Rattle.pool.specs.declared.refusal.Refusal.{Refusal}
 
 -- document 01, Causes and numbers; from 18 on document 02
 abbrev pub number_of : Cause → ℕ
@@ -33,10 +32,15 @@ pub data Outcome (A : Type 0) : Type 0 where
   accepted : A → Outcome A
   refused : ℕ → ℕ → Outcome A
 
--- the outcome that a verdict on a stands for
-abbrev pub outcome_of : {A : Type 0} → Verdict → A → Outcome A
-outcome_of verdict.Accepted a = accepted a
-outcome_of (verdict.Refused r) a = refused (number_of r.cause) r.at
+-- the outcome that a result stands for
+abbrev pub outcome : {A : Type 0} → Result A Refusal → Outcome A
+outcome (Ok a) = accepted a
+outcome (Err r) = refused (number_of r.cause) r.at
+
+-- the outcome that the result of a test of a stands for
+abbrev pub outcome_of : {A B : Type 0} → Result B Refusal → A → Outcome A
+outcome_of (Ok b) a = accepted a
+outcome_of (Err r) a = refused (number_of r.cause) r.at
 
 -- tests in the order given, each with the number of the cause that is met where it fails; `rest` where all pass
 unfoldable pub tested : {A : Type 0} → List (ℕ × Bool) → ℕ → Outcome A → Outcome A

@@ -4,38 +4,26 @@ ghost use Rattle.kep.specs.Lists.{tabulate};
 ghost use Rattle.kep.specs.Graph.{givers as giver_set};
 ghost use Rattle.pool.specs.Value.{graph_of};
 
-use crate::value::{Pool, has_arc};
+use crate::value::Pool;
 use sets::VertexSet;
 
 // The givers of every vertex, worked out once.
 pub fn all_givers(pool: Pool) -> [u16; 14]
     ensures { result ≡ tabulate (giver_set (graph_of pool)) 14 }
 {
-    let mut all = [0u16; 14];
-    let mut v: u8 = 0;
-    while v < 14 {
-        let at = v as usize;
-        let givers = givers_of(pool, v);
-        all[at] = givers.0;
-        v += 1;
-    }
-    all
+    std::array::from_fn(|v| givers_of(&pool, v as u8).0)
 }
 
 // The vertices that give to v.
-fn givers_of(pool: Pool, v: u8) -> VertexSet
+fn givers_of(pool: &Pool, v: u8) -> VertexSet
     requires { v < 14 }
-    ensures { result.0 ≡ giver_set (graph_of pool) v }
+    ensures { result.0 ≡ giver_set (graph_of pool.now) v }
 {
-    let size = pool.size;
-    let gives = pool.gives;
     let mut givers = VertexSet(0);
-    let mut u: u8 = 0;
-    while u < 14 {
-        if has_arc(size, &gives, u, v) {
+    for u in 0..14 {
+        if pool.gives_to(u, v) {
             givers = givers.with(u);
         }
-        u += 1;
     }
     givers
 }

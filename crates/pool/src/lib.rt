@@ -7,6 +7,6 @@ mod refusal;
 mod value;
 
 pub use givers::all_givers;
-pub use limits::{Limits, LimitsAnswer};
-pub use refusal::{Cause, Refusal, Verdict};
+pub use limits::Limits;
+pub use refusal::{Cause, Refusal};
 pub use value::Pool;

@@ -63,9 +63,11 @@ pub struct Refusal {
     pub at: usize,
 }
 
-// What a test of something lent answers.
-#[derive(Clone, Copy)]
-pub enum Verdict {
-    Accepted,
-    Refused(Refusal),
+// What meets a cause as a whole is refused at spot 0.
+impl From<Cause> for Refusal {
+    ghost from_gives = { λ c r. r ≡ record { cause = c; at = 0 } };
+
+    fn from(cause: Cause) -> Refusal {
+        Refusal { cause, at: 0 }
+    }
 }

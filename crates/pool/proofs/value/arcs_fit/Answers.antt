@@ -1,4 +1,3 @@
-use borrow.Author.Rules.{rules}
 use borrow.Author.Count.{below_more}
 use native.Mathlib.Omega.{arith}
 use Rattle.std.proofs.lemmas.Bool.Decides.{nat_tests}
@@ -14,15 +13,14 @@ returns-then-takers-allowed c =
     let a = c.args in
     let u = c.loop-u.u in
     one_fails (takers_fit a.size a.altruists a.gives.now) 14 {x = u} (omega arith)
-    (takers_fail a.size a.altruists a.gives.now u (c.type_inv.gives u).fits (grind (arith, nat_tests)) c.if-takers-allowed.true)
+    (takers_fail a.size a.altruists a.gives.now u (c.fits-gives u) (grind (arith, nat_tests)) c.if-takers-allowed.true)
 
 pub loop-u-preserved : goal.loop-u-preserved
 loop-u-preserved c =
     let a = c.args in
     let u = c.loop-u.u in
-    let fit = takers_pass a.size a.altruists a.gives.now u (c.type_inv.gives u).fits (grind (arith, nat_tests)) c.if-takers-allowed.false in
-    (search rules, below_more _ _ c.loop-u.invariant.1 fit)
+    below_more _ _ c.loop-u.invariant (takers_pass a.size a.altruists a.gives.now u (c.fits-gives u) (grind (arith, nat_tests)) c.if-takers-allowed.false)
 
 pub returns : goal.returns
 unfolding arcs_fit
-returns c = none_fails _ 14 (λ k h. c.loop-u.invariant.1 k (omega arith))
+returns c = none_fails _ 14 (λ k h. c.loop-u.invariant k (omega arith))

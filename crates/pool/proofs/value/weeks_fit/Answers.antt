@@ -8,9 +8,9 @@ use Rattle.pool.specs.Value.{weeks_fit}
 use Rattle.pool.proofs.value.weeks_fit.Invariants.{allowed, fits}
 use Rattle.pool.proofs.value.weeks_fit.Goals as goal
 
-pub returns-then-most-weeks : goal.returns-then-most-weeks
+pub returns-then-most-waited : goal.returns-then-most-waited
 unfolding weeks_fit
-returns-then-most-weeks c =
+returns-then-most-waited c =
     let a = c.args in
     let v = c.loop-v.v in
     -- as the code finds it
@@ -19,4 +19,4 @@ returns-then-most-weeks c =
 
 pub returns : goal.returns
 unfolding weeks_fit
-returns c = none_fails _ 14 (λ k h. c.loop-v.invariant.1 k (omega arith))
+returns c = none_fails _ 14 (λ k h. c.loop-v.invariant k (omega arith))

@@ -1,6 +1,6 @@
 use mathlib.Core.Bool.{Bool}
 use mathlib.Core.List.{List}
-use Prim.Native.Nat.{ℕ, ◌≤◌, ◌<◌, ◌-◌}
+use Prim.Native.Nat.{ℕ, ◌<◌}
 use lib.Dec.{T, ltb, leb}
 use lib.ListN.{get_or}
 use Rattle.kep.specs.Sets.{counted}
@@ -15,7 +15,4 @@ abbrev pub fits : ℕ → List ℕ → ℕ → Bool
 fits size weeks v = leb (get_or weeks v 0) (allowed size v)
 
 abbrev pub invariant-loop-v : goal.invariant-loop-v
-invariant-loop-v l = (l.v ≤ 14) × ((k : ℕ) → k < l.v → T (fits l.size l.weeks k))
-
-abbrev pub decreases-loop-v : goal.decreases-loop-v
-decreases-loop-v l = 14 - l.v
+invariant-loop-v l = (k : ℕ) → k < l.v → T (fits l.size l.weeks k)
