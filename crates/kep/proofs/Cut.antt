@@ -6,12 +6,19 @@ use native.Mathlib.Nat.{mul-suc, mul-zero}
 use native.Mathlib.Omega.{arith}
 use lib.ListN.{length, get_or, take, drop, length-drop}
 use lib.Seq.{drop-drop, length-take-le}
+use Rattle.std.specs.Simd.{first_chunks}
 use Rattle.kep.specs.Lists.{cut}
 
 pub length_cut : (w k : ℕ) (bytes : List ℕ) → length (cut w k bytes) ≡ k
 unfolding cut
 length_cut w zero bytes = refl
 length_cut w (suc k) bytes = ap suc (length_cut w k (drop w bytes))
+
+-- the records that the library's chunks are
+pub chunks_cut : (w k : ℕ) (bytes : List ℕ) → first_chunks w k bytes ≡ cut w k bytes
+unfolding cut
+chunks_cut w zero bytes = refl
+chunks_cut w (suc k) bytes = ap (λ rs. take w bytes ∷ rs) (chunks_cut w k (drop w bytes))
 
 -- record i
 pub get_d_cut : (w k i : ℕ) (bytes : List ℕ) → i < k → get_or (cut w k bytes) i [] ≡ take w (drop (w * i) bytes)

@@ -3,21 +3,22 @@ use mathlib.Core.Bool.{Bool, true, false, not, ◌&&◌, ◌||◌, and-true, and
 use mathlib.Core.List.{List, [], ◌∷◌, ◌++◌}
 use mathlib.Core.Logic.{⊎_elim}
 use mathlib.Core.Path.{◌≡◌, refl, sym, ap, ap₂, ◌∙◌}
-use Prim.Native.Nat.{ℕ, suc, ◌+◌, ◌-◌, ◌*◌, ◌/◌, ◌≤◌, ◌<◌}
+use Prim.Native.Nat.{ℕ, suc, ◌+◌, ◌≤◌, ◌<◌}
 use native.Mathlib.Numerals.{add-one}
 use native.Mathlib.Omega.{arith}
 use lib.ListN.{length, get_or, take, drop, drop_of_length-le}
 use lib.Seq.{take-suc, drop-cons, take_all, length-take-le}
 use borrow.Author.Tests.{eqb-true}
-use Rattle.reading.specs.declared.records.RecordRead.{RecordRead}
+use Rattle.std.specs.Prelude.{Result}
+use Rattle.pool.specs.declared.refusal.Cause.{Cause}
+use Rattle.reading.specs.declared.kind.Kind.{Kind}
 use Rattle.kep.specs.Lists.{keep}
 use Rattle.pool.specs.Refusals.{Outcome, accepted, refused, tested}
 use Rattle.reading.specs.Records.{none_of, field_tests, records_tested}
-use Rattle.reading.specs.Fields.{record_width, tells_house, tells_member, pool_records}
+use Rattle.reading.specs.Fields.{tells_house, tells_member}
 use Rattle.reading.specs.inner.Reading.{record_outcome}
 use Rattle.kep.proofs.Tests.{or_cases, is_true, from_false}
 use Rattle.kep.proofs.Each.{keep_yes, keep_no, keep_more}
-use Rattle.kep.proofs.Cut.{length_cut, record_part_lem}
 use Rattle.pool.proofs.Tested.{with_rest, held}
 use Rattle.reading.proofs.RecordLaws.{here, other_kind, none_more}
 
@@ -25,18 +26,17 @@ use Rattle.reading.proofs.RecordLaws.{here, other_kind, none_more}
 abbrev pub houses : List (List ℕ) → ℕ
 houses rs = length (keep tells_house rs)
 
-module _ (bytes : List ℕ) where
+module _ (rs : List (List ℕ)) where
   -- what the scan comes to
   abbrev pub whole : Outcome ℕ
-  whole = records_tested [] (pool_records bytes) (accepted (houses (pool_records bytes)))
+  whole = records_tested [] rs (accepted (houses rs))
 
   -- records 0 to i - 1 met no cause, and so many of them are houses'; the test of the rest is the test of the whole
   pub record Scanning (only_houses : Bool) (count i : ℕ) : Type 0 where
-    pub within : i ≤ length bytes / record_width
     pub few : count ≤ i
-    pub counts : count ≡ houses (take i (pool_records bytes))
-    pub members : only_houses ≡ none_of tells_member (take i (pool_records bytes))
-    pub left : records_tested (take i (pool_records bytes)) (drop i (pool_records bytes)) (accepted (houses (pool_records bytes))) ≡ whole
+    pub counts : count ≡ houses (take i rs)
+    pub members : only_houses ≡ none_of tells_member (take i rs)
+    pub left : records_tested (take i rs) (drop i rs) (accepted (houses rs)) ≡ whole
 
   -- by whatever name code has the numbers
   pub scan_same : {a b : Bool} {m n i : ℕ} → m ≡ n → a ≡ b → Scanning b n i → Scanning a m i
@@ -44,51 +44,43 @@ module _ (bytes : List ℕ) where
 
   pub scan_start : Scanning true 0 0
   unfolding keep
-  scan_start = record { within = omega arith; few = omega arith; counts = refl; members = refl; left = refl }
+  scan_start = record { few = omega arith; counts = refl; members = refl; left = refl }
 
-  pub scan_end : {only_houses : Bool} {count i : ℕ} → length bytes / record_width ≤ i → Scanning only_houses count i → accepted count ≡ whole
+  pub scan_end : {only_houses : Bool} {count i : ℕ} → length rs ≤ i → Scanning only_houses count i → accepted count ≡ whole
   unfolding records_tested
   scan_end {only_houses} {count} {i} l s =
-      let rs = pool_records bytes in
-      let all : length rs ≤ i = omega (arith, length_cut record_width (length bytes / record_width) bytes) in
-      ap (λ k. accepted k) (s.counts ∙ ap houses (take_all i rs all))
-      ∙ sym (ap (λ left. records_tested (take i rs) left (accepted (houses rs))) (drop_of_length-le rs all))
+      ap (λ k. accepted k) (s.counts ∙ ap houses (take_all i rs l))
+      ∙ sym (ap (λ left. records_tested (take i rs) left (accepted (houses rs))) (drop_of_length-le rs l))
       ∙ s.left
 
-  module _ {only_houses : Bool} {count i : ℕ} (h : i < length bytes / record_width) (s : Scanning only_houses count i) where
+  module _ {only_houses : Bool} {count i : ℕ} (h : i < length rs) (s : Scanning only_houses count i) where
     abbrev before : List (List ℕ)
-    before = take i (pool_records bytes)
+    before = take i rs
 
     abbrev r : List ℕ
-    r = get_or (pool_records bytes) i []
+    r = get_or rs i []
 
-    there : i < length (pool_records bytes)
-    there = rw (length_cut record_width (length bytes / record_width) bytes) h
-
-    more : take (suc i) (pool_records bytes) ≡ before ++ (r ∷ [])
-    more = take-suc (pool_records bytes) i [] there
+    more : take (suc i) rs ≡ before ++ (r ∷ [])
+    more = take-suc rs i [] h
 
     -- as code learns the outcome of record i
-    pub read_here : {e : RecordRead} (known : RecordRead) → e ≡ known
-        → ((b : List (List ℕ)) → only_houses ≡ none_of tells_member b
-        → record_outcome e (length b) ≡ here b (take (record_width * i + record_width - record_width * i) (drop (record_width * i) bytes)))
-        → record_outcome known (length before) ≡ here before r
-    read_here known q f =
-        sym (ap (λ x. record_outcome x (length before)) q) ∙ f before s.members ∙ ap (λ x. here before x) (record_part_lem record_width (length bytes / record_width) i bytes h)
+    pub read_here : {read : Result Kind Cause} (known : Result Kind Cause) → read ≡ known
+        → ((b : List (List ℕ)) → only_houses ≡ none_of tells_member b → record_outcome read (length b) ≡ here b r) → record_outcome known (length before) ≡ here before r
+    read_here known q f = sym (ap (λ x. record_outcome x (length before)) q) ∙ f before s.members
 
     later : Outcome ℕ
-    later = records_tested (before ++ (r ∷ [])) (drop (suc i) (pool_records bytes)) (accepted (houses (pool_records bytes)))
+    later = records_tested (before ++ (r ∷ [])) (drop (suc i) rs) (accepted (houses rs))
 
     first : tested (field_tests before r) (length before) later ≡ whole
     unfolding records_tested later
     first =
-        sym (ap (λ left. records_tested before left (accepted (houses (pool_records bytes)))) (drop-cons (pool_records bytes) i [] there))
+        sym (ap (λ left. records_tested before left (accepted (houses rs))) (drop-cons rs i [] h))
         ∙ s.left
 
     -- record i meets a cause
     pub scan_stop : {n : ℕ} → refused n (length before) ≡ here before r → refused n i ≡ whole
     scan_stop {n} e =
-        ap (λ at. refused n at) (sym (length-take-le i (pool_records bytes) (omega (arith, there))))
+        ap (λ at. refused n at) (sym (length-take-le i rs (omega arith)))
         ∙ sym (with_rest (tells_member r) (field_tests before r) (length before) (sym e) later)
         ∙ first
 
@@ -108,13 +100,12 @@ module _ (bytes : List ℕ) where
       next few counts =
           rw (add-one i)
           (record {
-            within = h;
             few = few;
             counts = counts ∙ sym (ap houses more ∙ keep_more tells_house r before);
             members =
                 ap₂ (λ x y. x && not y) s.members (sym kind)
                 ∙ sym (ap (λ rs. none_of tells_member rs) more ∙ none_more tells_member r before);
-            left = ap (λ b'. records_tested b' (drop (suc i) (pool_records bytes)) (accepted (houses (pool_records bytes)))) more ∙ goes;
+            left = ap (λ b'. records_tested b' (drop (suc i) rs) (accepted (houses rs))) more ∙ goes;
           })
 
     -- it is a member's

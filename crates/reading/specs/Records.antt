@@ -3,8 +3,8 @@ use Rattle.std.specs.Prelude.{Bool, not, ◌&&◌, ◌||◌, List, [], ◌∷◌
 use Rattle.pool.specs.declared.value.Pool.{Pool}
 use Rattle.kep.specs.Lists.{keep}
 use Rattle.kep.specs.Sets.{has}
-use Rattle.pool.specs.Refusals.{Outcome, accepted, refused, tested}
-use Rattle.pool.specs.Value.{empty_pool, most_weeks_waited}
+use Rattle.pool.specs.Refusals.{Outcome, accepted, tested}
+use Rattle.pool.specs.Value.{most_weeks_waited}
 use Rattle.reading.specs.Fields.{record_width, most_records, pool_records, tells_house, tells_member, class_of, grade_of, least_of, taken_of, weeks_of, machine_of}
 use Rattle.reading.specs.computed.Pool.{pool_of}
 
@@ -78,8 +78,3 @@ pub record GivesTo (bytes : List ℕ) (u v : ℕ) : Type 0 where
   pub taker_member : T (tells_member (get_or (pool_records bytes) v []))
   pub class_taken : T (has (taken_of (get_or (pool_records bytes) v [])) (class_of (get_or (pool_records bytes) u [])))
   pub grade_enough : least_of (get_or (pool_records bytes) v []) ≤ grade_of (get_or (pool_records bytes) u [])
-
--- the pool beside a verdict: the empty pool beside a refusal
-abbrev pub pool_beside : Outcome Pool → Pool
-pool_beside (accepted p) = p
-pool_beside (refused number at) = empty_pool

@@ -1,6 +1,6 @@
 // A pool record: its width, how many a pool has at most, where its fields stand, and the fields of more than one byte.
-ghost use Rattle.std.specs.Prelude.{◌≡◌, ◌+◌, ◌<◌, length};
-ghost use Rattle.reading.specs.Fields.{record_width, pair_at, taken_of, weeks_of, machine_of};
+ghost use Rattle.std.specs.Prelude.{◌≡◌, ◌<◌};
+ghost use Rattle.reading.specs.Fields.{pair_at, taken_of, weeks_of, machine_of};
 
 // Where code needs a record's width, the most records of a pool or the first byte of a field, it goes by these names.
 #[derive(Clone, Copy)]
@@ -26,43 +26,36 @@ impl PoolRecord {
     pub const MACHINE: usize = 10;
 }
 
+// The bytes of a record, as a part of those that are lent.
+pub(crate) type Record = [u8; PoolRecord::WIDTH];
+
 // The classes taken, as a set.
-pub(crate) fn taken(bytes: &[u8]) -> u32
-    requires { length bytes.now ≡ record_width }
+pub(crate) fn taken(bytes: &Record) -> u32
     ensures { result ≡ taken_of bytes.now }
 {
     let low = pair(bytes, PoolRecord::TAKEN);
     let high = pair(bytes, PoolRecord::TAKEN + 2);
-    (low as u32) + 65536 * (high as u32)
+    low as u32 + 65536 * high as u32
 }
 
 // The weeks waited.
-pub(crate) fn weeks(bytes: &[u8]) -> u16
-    requires { length bytes.now ≡ record_width }
+pub(crate) fn weeks(bytes: &Record) -> u16
     ensures { result ≡ weeks_of bytes.now }
 {
     pair(bytes, PoolRecord::WEEKS)
 }
 
 // The machine's number.
-pub(crate) fn machine(bytes: &[u8]) -> u16
-    requires { length bytes.now ≡ record_width }
+pub(crate) fn machine(bytes: &Record) -> u16
     ensures { result ≡ machine_of bytes.now }
 {
     pair(bytes, PoolRecord::MACHINE)
 }
 
 // The number in two bytes, the low one first.
-fn pair(bytes: &[u8], at: usize) -> u16
-    requires { at + 1 < length bytes.now }
+fn pair(bytes: &Record, at: usize) -> u16
+    requires { at < 11 }
     ensures { result ≡ pair_at bytes.now at }
 {
-    wide(bytes[at]) + 256 * wide(bytes[at + 1])
-}
-
-// A byte in a wider number, with its bound.
-fn wide(byte: u8) -> u16
-    ensures { (result ≡ byte) × (result < 256) }
-{
-    byte as u16
+    u16::from_le_bytes([bytes[at], bytes[at + 1]])
 }

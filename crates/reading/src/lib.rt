@@ -2,10 +2,11 @@
 #![tactic(auto)]
 
 mod fields;
+mod kind;
 mod pool_bytes;
 mod records;
 mod takers;
 mod waited;
 
 pub use fields::PoolRecord;
-pub use pool_bytes::{PoolAnswer, read_pool};
+pub use pool_bytes::read_pool;

@@ -1,69 +1,60 @@
 // The arcs of a pool: for each place the set of the places that it gives to.
-ghost use Rattle.std.specs.Prelude.{◌≡◌, ◌/◌, ◌≤◌, ◌<◌, length};
-ghost use Rattle.reading.specs.Fields.{record_width, most_records, pool_records};
+ghost use Rattle.std.specs.Prelude.{◌≡◌, ◌≤◌, length, [], get_or};
+ghost use Rattle.kep.specs.Sets.{has, set_where};
+ghost use Rattle.reading.specs.Fields.{most_records, taken_of, tells_member};
 ghost use Rattle.reading.specs.computed.Pool.{record_gives, takers_of, for_places};
 
-use crate::fields::{PoolRecord, taken};
+use crate::fields::{PoolRecord, Record, taken};
+use crate::kind::Kind;
 use sets::VertexSet;
 
 // The sets of all places; nothing from places that are not there.
-pub(crate) fn takers(bytes: &[u8]) -> [u16; PoolRecord::MOST]
-    requires { length bytes.now / record_width ≤ most_records }
-    ensures { result ≡ for_places (takers_of (pool_records bytes.now)) (length bytes.now / record_width) }
+pub(crate) fn takers(records: &[Record]) -> [u16; PoolRecord::MOST]
+    requires { length records.now ≤ most_records }
+    ensures { result ≡ for_places (takers_of records.now) (length records.now) }
 {
-    let places = bytes.len() / PoolRecord::WIDTH;
-    let mut gives = [0u16; PoolRecord::MOST];
-    let mut u: usize = 0;
-    while u < places {
-        let set = takers_of(bytes, u);
-        gives[u] = set.0;
-        u += 1;
+    let mut gives = [0; PoolRecord::MOST];
+    for (u, giver) in records.iter().enumerate() {
+        gives[u] = takers_of(giver, records).0;
     }
     gives
 }
 
-// The places that place u gives to.
-fn takers_of(bytes: &[u8], u: usize) -> VertexSet
-    requires record_width_len_bound { length bytes.now / record_width ≤ most_records }
-    requires u_in_bounds { u < length bytes.now / record_width }
-    ensures { result.0 ≡ takers_of (pool_records bytes.now) u }
+// The places that a giver gives to.
+fn takers_of(giver: &Record, records: &[Record]) -> VertexSet
+    requires { length records.now ≤ most_records }
+    ensures { result.0 ≡ set_where (length records.now) (λ v. record_gives giver.now (get_or records.now v [])) }
 {
-    let places = bytes.len() / PoolRecord::WIDTH;
-    let giver = PoolRecord::WIDTH * u;
     let mut set = VertexSet(0);
-    let mut v: usize = 0;
-    while v < places {
-        let taker = PoolRecord::WIDTH * v;
-        if gives(
-            &bytes[giver..giver + PoolRecord::WIDTH],
-            &bytes[taker..taker + PoolRecord::WIDTH],
-        ) {
+    for (v, taker) in records.iter().enumerate() {
+        if gives(giver, taker) {
             set = set.with(v as u8);
         }
-        v += 1;
     }
     set
 }
 
 // Does the giver's record give to the taker's?
-fn gives(giver: &[u8], taker: &[u8]) -> bool
-    requires giver_len { length giver.now ≡ record_width }
-    requires taker_len { length taker.now ≡ record_width }
+#[tactic(auto, unfolding(crate::specs::computed::Pool::record_gives))]
+fn gives(giver: &Record, taker: &Record) -> bool
     ensures { result ≡ record_gives giver.now taker.now }
 {
-    let class = giver[PoolRecord::CLASS];
-    let kind = taker[PoolRecord::KIND];
-    match kind {
-        77 => {
-            let classes = taken(taker);
-            if 31 < class {
-                return false;
-            }
-            if (classes >> class) % 2 == 0 {
-                return false;
-            }
-            taker[PoolRecord::LEAST] <= giver[PoolRecord::GRADE]
-        }
-        _ => false,
-    }
+    is_member(taker)
+        && takes(taker, giver[PoolRecord::CLASS])
+        && taker[PoolRecord::LEAST] <= giver[PoolRecord::GRADE]
+}
+
+// Is the record a member's?
+fn is_member(bytes: &Record) -> bool
+    ensures { result ≡ tells_member bytes.now }
+{
+    matches!(Kind::try_from(bytes[PoolRecord::KIND]), Ok(Kind::Member))
+}
+
+// Is the class among those taken? None above 31 is.
+fn takes(bytes: &Record, class: u8) -> bool
+    ensures { result ≡ has (taken_of bytes.now) class }
+{
+    let classes = taken(bytes);
+    class < 32 && (classes >> class) % 2 == 1
 }

@@ -1,33 +1,26 @@
-use mathlib.Core.Path.{refl, sym, ap, ◌∙◌}
+use borrow.Author.Rules.{rules}
+use mathlib.Core.Path.{◌≡◌, ap, ◌∙◌}
+use Prim.Native.Nat.{◌%◌}
 use native.Mathlib.Omega.{arith}
+use lib.ListN.{length}
+use Rattle.std.proofs.lemmas.Result.{err_from_is_err_and}
 use Rattle.pool.specs.Refusals.{accepted}
-use Rattle.reading.specs.inner.Reading.{scan_outcome}
-use Rattle.reading.proofs.ReadLaws.{read_uneven, read_many, read_by, answer_refused, answer_accepted, records_accepted, pool_read}
+use Rattle.reading.specs.Fields.{record_width, pool_records}
+use Rattle.kep.proofs.Cut.{chunks_cut}
+use Rattle.reading.proofs.ReadLaws.{read_by, pool_read}
 use Rattle.reading.proofs.pool_bytes.read_pool.Goals as goal
 
-pub returns-then-length-ne0 : goal.returns-then-length-ne0
-returns-then-length-ne0 c =
+pub returns-in_err-altruists : goal.returns-in_err-altruists
+returns-in_err-altruists c =
+    let p = err_from_is_err_and c.from_residual.result c.from_residual.ensures.1 in
     let bytes = c.args.bytes.now in
-    let (outcome, beside) = answer_refused bytes _ _ c.refused.ensures (sym (read_uneven bytes c.if-length-ne0.true)) in
-    record { outcome = outcome; beside = beside }
+    let same : c.as_chunks.result.0.now ≡ pool_records bytes = c.as_chunks.ensures.front ∙ chunks_cut _ _ bytes in
+    let even : length bytes % record_width ≡ 0 = search rules in
+    rw (p.1, p.2) (read_by bytes same even (omega arith) c.in_err-altruists.ensures)
 
-pub returns-then-places-gt-MOST : goal.returns-then-places-gt-MOST
-returns-then-places-gt-MOST c =
+pub returns : goal.returns
+returns c =
     let bytes = c.args.bytes.now in
-    let (outcome, beside) = answer_refused bytes _ _ c.refused-then-places-gt-MOST.ensures (sym (read_many bytes c.if-length-ne0.false c.if-places-gt-MOST.true)) in
-    record { outcome = outcome; beside = beside }
-
-pub returns-in-Houses : goal.returns-in-Houses
-returns-in-Houses c =
-    let bytes = c.args.bytes.now in
-    let done = sym (ap scan_outcome c.in-Houses.is) ∙ c.scan_records-scan.ensures in
-    let (outcome, beside) = answer_accepted bytes _
-    (ap (λ p. accepted p) (pool_read bytes refl (records_accepted _ _ (sym done)) c.takers-gives.ensures c.waited-weeks.ensures) ∙ sym (read_by bytes c.if-length-ne0.false (omega arith) done)) in
-    record { outcome = outcome; beside = beside }
-
-pub returns-in-Refused : goal.returns-in-Refused
-returns-in-Refused c =
-    let bytes = c.args.bytes.now in
-    let stopped = sym (ap scan_outcome c.in-Refused.is) ∙ c.scan_records-scan.ensures in
-    let (outcome, beside) = answer_refused bytes _ _ c.refused-in-Refused.ensures (sym (read_by bytes c.if-length-ne0.false (omega arith) stopped)) in
-    record { outcome = outcome; beside = beside }
+    let same : c.as_chunks.result.0.now ≡ pool_records bytes = c.as_chunks.ensures.front ∙ chunks_cut _ _ bytes in
+    let even : length bytes % record_width ≡ 0 = search rules in
+    ap accepted (pool_read _ c.in_ok-altruists.ensures c.takers.ensures c.waited.ensures) ∙ read_by bytes same even (omega arith) c.in_ok-altruists.ensures

@@ -1,14 +1,9 @@
 use mathlib.Core.List.{◌++◌}
 use mathlib.Core.Path.{◌≡◌}
-use Prim.Native.Nat.{◌≤◌, ◌-◌, ◌/◌}
-use lib.ListN.{length, drop}
+use lib.ListN.{drop}
 use Rattle.kep.specs.Lists.{tabulate}
-use Rattle.reading.specs.Fields.{record_width, pool_records}
 use Rattle.reading.specs.computed.Pool.{weeks_at}
 use Rattle.reading.proofs.waited.waited.Given as goal
 
 abbrev pub invariant-loop-u : goal.invariant-loop-u
-invariant-loop-u l = (l.u ≤ length l.bytes / record_width) × (l.all ≡ tabulate (weeks_at (pool_records l.bytes)) l.u ++ drop l.u l.initial.all)
-
-abbrev pub decreases-loop-u : goal.decreases-loop-u
-decreases-loop-u l = length l.bytes / record_width - l.u
+invariant-loop-u l = l.all ≡ tabulate (weeks_at l.records) l.u ++ drop l.u l.initial.all
