@@ -1,20 +1,17 @@
--- One record as code reads it: its kind, and its causes in their order.
-use mathlib.Core.Bool.{Bool, true, false, not, ◌&&◌, ◌||◌, and-true, and-false}
+-- One record more: its kind, and the outcome of its tests.
+use mathlib.Core.Bool.{Bool, true, false, not, ◌&&◌, and-true, and-false}
 use mathlib.Core.List.{List, [], ◌∷◌, ◌++◌}
-use mathlib.Core.Logic.{⊎_elim, ◌≢◌}
 use mathlib.Core.Path.{◌≡◌, refl, sym, ap, ◌∙◌}
 use Prim.Native.Nat.{ℕ, ◌+◌}
 use native.Mathlib.Omega.{arith}
-use lib.Dec.{T, eqb}
+use lib.Dec.{eqb}
 use lib.ListN.{length}
-use borrow.Author.Tests.{eq-eqb, ne_eqb}
+use borrow.Author.Tests.{ne_eqb}
 use Rattle.kep.specs.Lists.{keep}
-use Rattle.pool.specs.Refusals.{Outcome, accepted, refused, tested}
-use Rattle.reading.specs.Records.{class_fits, grades_fit, takes_nothing, weeks_and_machine_fit, none_of, field_tests}
+use Rattle.pool.specs.Refusals.{Outcome, accepted, tested}
+use Rattle.reading.specs.Records.{none_of, field_tests}
 use Rattle.reading.specs.Fields.{record_kind, tells_house, tells_member}
-use Rattle.kep.proofs.Tests.{or_cases, from_false}
 use Rattle.kep.proofs.Each.{keep_yes, keep_no, keep_more}
-use Rattle.pool.proofs.Tested.{passes, fails}
 
 -- a member's record is no house's
 pub other_kind : (r : List ℕ) → record_kind r ≡ 77 → tells_house r ≡ false
@@ -31,42 +28,6 @@ module _ (p : List ℕ → Bool) (r : List ℕ) where
       go true e k = rw (keep_yes p r [] e) (ne_eqb (1 + k) 0 (λ f. omega arith) ∙ sym (and-false (eqb k 0)))
       go false e k = rw (keep_no p r [] e) (let zero : 0 + k ≡ k = omega arith in ap (λ j. eqb j 0) zero ∙ sym (and-true (eqb k 0)))
 
--- ---- the kind
-
--- what code that decided the kind knows of a record
-pub record KindIs (r : List ℕ) (house : Bool) : Type 0 where
-  pub is_house : house ≡ tells_house r
-  pub is_member : not house ≡ tells_member r
-
-pub kind_house : {r : List ℕ} {house : Bool} → record_kind r ≡ 72 → house ≡ true → KindIs r house
-kind_house {r} e q = rw q (record { is_house = sym (eq-eqb (record_kind r) 72 e); is_member = sym (ne_eqb (record_kind r) 77 (λ f. omega arith)) })
-
-pub kind_member : {r : List ℕ} {house : Bool} → record_kind r ≡ 77 → house ≡ false → KindIs r house
-kind_member {r} e q = rw q (record { is_house = sym (other_kind r e); is_member = sym (eq-eqb (record_kind r) 77 e) })
-
--- ---- the causes, in their order
-
-module _ (before : List (List ℕ)) (r : List ℕ) where
-  -- the outcome of the record alone
-  abbrev pub here : Outcome Bool
-  here = tested (field_tests before r) (length before) (accepted (tells_member r))
-
-  pub kind_unknown : record_kind r ≢ 72 → record_kind r ≢ 77 → refused 3 (length before) ≡ here
-  unfolding field_tests
-  kind_unknown h m =
-      sym
-      (fails 3 _ _ (length before) (accepted (tells_member r))
-      (λ t. ⊎_elim (from_false (ne_eqb (record_kind r) 72 h)) (from_false (ne_eqb (record_kind r) 77 m)) (or_cases (tells_house r) (tells_member r) t)))
-
-  -- the outcome of a record of known kind, by what code found of its tests
-  pub tests_found : {house grades nothing first weeks : Bool} {o : Outcome Bool} → KindIs r house → grades ≡ grades_fit r → nothing ≡ takes_nothing r
-      → first ≡ none_of tells_member before → weeks ≡ weeks_and_machine_fit r
-      → o ≡ tested ((4, class_fits r) ∷ (19, grades) ∷ (20, not house || nothing) ∷ (5, not house || first) ∷ (18, weeks) ∷ []) (length before) (accepted (not house))
-      → o ≡ here
-  unfolding field_tests
-  tests_found {house} kind g n f w e =
-      e ∙ rw (g, n, f, w, ← kind.is_house, ← kind.is_member) (sym (passes 3 (house || not house) _ (length before) (accepted (not house)) (one house)))
-    where
-      one : (b : Bool) → T (b || not b)
-      one true = tt
-      one false = tt
+-- the outcome of a record alone, behind the records before it
+abbrev pub here : List (List ℕ) → List ℕ → Outcome Bool
+here before r = tested (field_tests before r) (length before) (accepted (tells_member r))
