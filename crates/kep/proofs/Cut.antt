@@ -29,6 +29,9 @@ get_d_cut w (suc k) (suc i) bytes h =
     let further : w + w * i ≡ w * suc i = omega (arith, mul-suc w i) in
     get_d_cut w k i (drop w bytes) (omega arith) ∙ ap (take w) (drop-drop (w * i) w bytes ∙ ap (λ j. drop j bytes) further)
 
+pub chunk_at : (w k i : ℕ) (bytes : List ℕ) {rs : List (List ℕ)} → rs ≡ first_chunks w k bytes → i < k → get_or rs i [] ≡ take w (drop (w * i) bytes)
+chunk_at w k i bytes e h = ap (λ rs. get_or rs i []) (e ∙ chunks_cut w k bytes) ∙ get_d_cut w k i bytes h
+
 -- of n records those from record i on: record i, and those from the next on
 pub cut_from : (w n i : ℕ) (bytes : List ℕ) → i < n
     → cut w (n - i) (drop (w * i) bytes) ≡ take w (drop (w * i) bytes) ∷ cut w (n - suc i) (drop (w * suc i) bytes)

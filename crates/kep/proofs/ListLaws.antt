@@ -9,11 +9,22 @@ use native.Mathlib.Nat.{eq-or-lt_of_le, zero-add}
 use native.Mathlib.Omega.{arith}
 use lib.Dec.{eqb, T, eqb→eq, T_not, not_T}
 use lib.ListN.{length}
+use Rattle.std.specs.List.{list_all}
 use Rattle.kep.specs.Lists.{all, elem, distinct, Each, none, also, upto}
 use Rattle.kep.proofs.Tests.{if_and, if_or, if_not, or_cases, or_left, eq→eqb, or_right, and_left, and_right, and_both, and_iff, eqb_sym, is_true, is_false}
 use Rattle.kep.proofs.Each.{each_of, each_at}
 
 -- ---- the tests by their clauses, at the front
+
+-- as the library has it
+pub all_list : (p : ℕ → Bool) (xs : List ℕ) → list_all p xs ≡ all p xs
+unfolding all
+all_list p [] = refl
+all_list p (x ∷ xs) = go (p x) (all_list p xs)
+  where
+    go : (b : Bool) → list_all p xs ≡ all p xs → (b && list_all p xs) ≡ (elim b as (λ _. Bool) [ true ↦ all p xs | false ↦ false ])
+    go true ih = ih
+    go false ih = refl
 
 pub all_cons : (p : ℕ → Bool) (x : ℕ) (xs : List ℕ) → all p (x ∷ xs) ≡ (p x && all p xs)
 unfolding all

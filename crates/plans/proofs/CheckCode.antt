@@ -1,5 +1,5 @@
 -- Laws of the code that checks one record.
-use mathlib.Core.Bool.{Bool, true, false, not, ◌&&◌, ◌||◌}
+use mathlib.Core.Bool.{false, not, ◌&&◌, ◌||◌}
 use mathlib.Core.List.{List, [], ◌∷◌}
 use mathlib.Core.Logic.{◌≢◌}
 use mathlib.Core.Path.{◌≡◌, sym, ◌∙◌, ap}
@@ -8,7 +8,8 @@ use native.Mathlib.Decide.{dec_le}
 use native.Mathlib.Omega.{arith}
 use lib.Dec.{T, eqb, ltb, eqb→eq}
 use lib.ListN.{length, get_or}
-use borrow.Author.Tests.{le-leb, lt-leb, lt-ltb, le-ltb, ne_eqb, not-true, not-false}
+use borrow.Author.Tests.{le-leb, lt-leb, lt-ltb, le-ltb, ne_eqb}
+use Rattle.std.specs.Prelude.{Ok, Err}
 use Rattle.pool.specs.declared.limits.Limits.{Limits}
 use Rattle.pool.specs.declared.refusal.Cause.TheVariants as cause
 use Rattle.pool.specs.declared.value.Pool.{Pool}
@@ -19,22 +20,15 @@ use Rattle.pool.specs.Value.{graph_of}
 use Rattle.kep.specs.Exchange.{walk, last_of, head_of}
 use Rattle.kep.specs.Table.{member_worth, served}
 use Rattle.plans.specs.declared.check_record.Before.{Before}
-use Rattle.plans.specs.declared.check_record.RecordAnswer.TheVariants as answer
+use Rattle.plans.specs.declared.rules.Rules.{Rules}
 use Rattle.kep.specs.Plan.{kind_of}
 use Rattle.plans.specs.Check.{vertices_of, none_lower, lists_vertices, rising, joined, within_limits, ends_right, record_tests}
 use Rattle.plans.specs.inner.CheckSteps.{fresh_in, added, record_check, RecordChecked, Listed}
-use Rattle.kep.proofs.Tests.{from_true, from_false, same_test, eq→eqb, and_left, and_right, and_iff}
+use Rattle.kep.proofs.Tests.{same_test, eq→eqb, and_left, and_right, and_iff}
 use Rattle.kep.proofs.ExchangeFacts.{members_served}
 use Rattle.kep.proofs.Fits.{taker, walk_members}
 use Rattle.pool.proofs.Tested.{all_pass, first_fails}
 use Rattle.plans.proofs.CheckArcs.{head_here}
-
--- what a negated test says of what its call ensures
-pub is_so : {b t : Bool} → b ≡ t → not b ≡ false → T t
-is_so {b} e f = from_true (sym e ∙ not-false b f)
-
-pub is_not : {b t : Bool} → b ≡ t → not b ≡ true → T t → ⊥
-is_not {b} e f = from_false (sym e ∙ not-true b f)
 
 -- ---- 14, from the first vertex
 
@@ -134,58 +128,58 @@ on_vertices : (l : Limits) (b : Before) {p : Pool} {r xs : List ℕ} → Listed 
 unfolding record_tests
 on_vertices l b k at = rw k.vertices
 
-module _ {p : Pool} {l : Limits} {b : Before} {r : List ℕ} where
-  pub stop_12 : (T (lists_vertices (graph_of p) r) → ⊥) → RecordChecked p l b r (answer.Refused cause.PlanVertex)
+module _ {s : Rules} {b : Before} {r : List ℕ} where
+  pub stop_12 : (T (lists_vertices (graph_of s.pool) r) → ⊥) → RecordChecked s b r (Err cause.PlanVertex)
   unfolding record_tests
   stop_12 n = record { at_spot = λ at. sym (first_fails at _ [] 12 _ _ none n) }
 
-  module _ {xs : List ℕ} (k : Listed p r xs) where
-    pub stop_13 : (T (fresh_in b.met.0 xs) → ⊥) → RecordChecked p l b r (answer.Refused cause.VertexMet)
-    stop_13 n = record { at_spot = λ at. sym (first_fails at _ ((12, _) ∷ []) 13 _ _ (also k.passed none) n) ∙ on_vertices l b k at }
+  module _ {xs : List ℕ} (k : Listed s.pool r xs) where
+    pub stop_13 : (T (fresh_in b.met.0 xs) → ⊥) → RecordChecked s b r (Err cause.VertexMet)
+    stop_13 n = record { at_spot = λ at. sym (first_fails at _ ((12, _) ∷ []) 13 _ _ (also k.passed none) n) ∙ on_vertices s.limits b k at }
 
     module _ (new : T (fresh_in b.met.0 xs)) where
-      pub stop_14 : (T (rising b.least xs) → ⊥) → RecordChecked p l b r (answer.Refused cause.PlanOrder)
+      pub stop_14 : (T (rising b.least xs) → ⊥) → RecordChecked s b r (Err cause.PlanOrder)
       stop_14 n = record {
-        at_spot = λ at. sym (first_fails at _ ((12, _) ∷ (13, _) ∷ []) 14 _ _ (also k.passed (also new none)) n) ∙ on_vertices l b k at;
+        at_spot = λ at. sym (first_fails at _ ((12, _) ∷ (13, _) ∷ []) 14 _ _ (also k.passed (also new none)) n) ∙ on_vertices s.limits b k at;
       }
 
       module _ (high : T (rising b.least xs)) where
-        pub stop_15 : (T (joined (graph_of p) xs) → ⊥) → RecordChecked p l b r (answer.Refused cause.ArcMissing)
+        pub stop_15 : (T (joined (graph_of s.pool) xs) → ⊥) → RecordChecked s b r (Err cause.ArcMissing)
         stop_15 n = record {
           at_spot = λ at.
               sym (first_fails at _ ((12, _) ∷ (13, _) ∷ (14, _) ∷ []) 15 _ _ (also k.passed (also new (also high none))) n)
-              ∙ on_vertices l b k at;
+              ∙ on_vertices s.limits b k at;
         }
 
-        module _ (arcs : T (joined (graph_of p) xs)) where
-          pub stop_16 : (T (within_limits (graph_of p) l.cycle l.chain xs) → ⊥) → RecordChecked p l b r (answer.Refused cause.ExchangeLength)
+        module _ (arcs : T (joined (graph_of s.pool) xs)) where
+          pub stop_16 : (T (within_limits (graph_of s.pool) s.limits.cycle s.limits.chain xs) → ⊥) → RecordChecked s b r (Err cause.ExchangeLength)
           stop_16 n = record {
             at_spot = λ at.
                 sym (first_fails at _ ((12, _) ∷ (13, _) ∷ (14, _) ∷ (15, _) ∷ []) 16 _ _ (also k.passed (also new (also high (also arcs none)))) n)
-                ∙ on_vertices l b k at;
+                ∙ on_vertices s.limits b k at;
           }
 
-          module _ (short : T (within_limits (graph_of p) l.cycle l.chain xs)) where
-            pub stop_17 : (T (ends_right (graph_of p) r) → ⊥) → RecordChecked p l b r (answer.Refused cause.PlanEnd)
+          module _ (short : T (within_limits (graph_of s.pool) s.limits.cycle s.limits.chain xs)) where
+            pub stop_17 : (T (ends_right (graph_of s.pool) r) → ⊥) → RecordChecked s b r (Err cause.PlanEnd)
             stop_17 n = record {
               at_spot = λ at.
                   sym
                   (first_fails at _ ((12, _) ∷ (13, _) ∷ (14, _) ∷ (15, _) ∷ (16, _) ∷ []) 17 _ _
                   (also k.passed (also new (also high (also arcs (also short none)))))
                   n)
-                  ∙ on_vertices l b k at;
+                  ∙ on_vertices s.limits b k at;
             }
 
             -- no cause is met
-            pub passes_all : {next : Before} → T (ends_right (graph_of p) r) → next.met.0 ≡ added b.met.0 xs → next.least ≡ head_of xs + 1
-                → next.served ≡ b.served + served (graph_of p) xs → RecordChecked p l b r (answer.Accepted next)
+            pub passes_all : {next : Before} → T (ends_right (graph_of s.pool) r) → next.met.0 ≡ added b.met.0 xs → next.least ≡ head_of xs + 1
+                → next.served ≡ b.served + served (graph_of s.pool) xs → RecordChecked s b r (Ok next)
             passes_all {next} end met least count = record {
               at_spot = λ at.
                   same
                   ∙ sym (all_pass at _ (also k.passed (also new (also high (also arcs (also short (also end none)))))))
-                  ∙ on_vertices l b k at;
+                  ∙ on_vertices s.limits b k at;
             }
               where
                 same : ◌≡◌ {A = Outcome (ℕ × ℕ × ℕ)} (accepted (next.met.0, next.least, next.served))
-                    (accepted (added b.met.0 xs, head_of xs + 1, b.served + served (graph_of p) xs))
+                    (accepted (added b.met.0 xs, head_of xs + 1, b.served + served (graph_of s.pool) xs))
                 same = rw (met, least, count)

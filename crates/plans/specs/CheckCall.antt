@@ -1,18 +1,11 @@
 -- What the call of the checker tells.
 use Rattle.std.specs.Prelude.{List, [], ◌∷◌, ℕ}
 use Rattle.pool.specs.declared.limits.Limits.{Limits}
-use Rattle.pool.specs.Refusals.{number_of, Outcome, accepted, refused, tested, and_then}
+use Rattle.pool.specs.Refusals.{Outcome, tested, and_then}
 use Rattle.pool.specs.Limits.{limits_fit}
 use Rattle.pool.specs.Value.{graph_of}
 use Rattle.reading.specs.Records.{read_pool}
-use Rattle.plans.specs.declared.checker.Checked.{Checked}
-use Rattle.plans.specs.declared.checker.Checked.TheVariants as checked
 use Rattle.plans.specs.Check.{check}
-
--- what its answer stands for: the members served, or the number and the spot of the first cause met
-abbrev pub checked_outcome : Checked → Outcome ℕ
-checked_outcome (checked.Served k) = accepted k
-checked_outcome (checked.Refused r) = refused (number_of r.cause) r.at
 
 -- the causes of reading the pool; 7; then the plan, from 11 on
 abbrev pub check_outcome : List ℕ → Limits → List ℕ → Outcome ℕ

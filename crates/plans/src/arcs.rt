@@ -1,5 +1,5 @@
 // What the checker tests of the vertices of an exchange in the pool's graph: causes 15 and 16.
-ghost use Rattle.std.specs.Prelude.{◌≡◌, ◌≤◌, ◌<◌, length};
+ghost use Rattle.std.specs.Prelude.{◌≡◌, ◌≤◌, length};
 ghost use Rattle.pool.specs.Value.{graph_of};
 ghost use Rattle.kep.specs.Exchange.{walk};
 ghost use Rattle.plans.specs.Check.{joined, within_limits};
@@ -11,14 +11,11 @@ fn walks(pool: Pool, from: u8, vertices: &[u8]) -> bool
     ensures { result ≡ walk (graph_of pool) from vertices.now }
 {
     let mut giver = from;
-    let mut i: usize = 0;
-    while i < vertices.len() {
-        let taker = vertices[i];
-        if !pool.arc(giver, taker) {
+    for taker in vertices {
+        if !pool.arc(giver, *taker) {
             return false;
         }
-        giver = taker;
-        i += 1;
+        giver = *taker;
     }
     true
 }
@@ -41,13 +38,11 @@ pub(crate) fn within_limits(pool: Pool, limits: Limits, vertices: &[u8]) -> bool
     ensures { result ≡ within_limits (graph_of pool) limits.cycle limits.chain vertices.now }
 {
     let count = vertices.len();
-    let cycle = limits.cycle as usize;
-    let chain = limits.chain as usize;
     if pool.altruists <= vertices[0] {
-        return count <= cycle;
+        return count <= limits.cycle as usize;
     }
     if count == 1 {
         return false;
     }
-    count - 1 <= chain
+    count - 1 <= limits.chain as usize
 }

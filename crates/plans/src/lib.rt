@@ -5,7 +5,8 @@ mod arcs;
 mod check_record;
 mod checker;
 mod record_part;
+mod rules;
 mod vertices;
 
-pub use checker::{Checked, check};
-pub use record_part::record;
+pub use checker::check;
+pub use record_part::{PlanRecord, record};

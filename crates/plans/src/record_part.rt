@@ -1,16 +1,30 @@
-// "Record k" of plan bytes: a part of the caller's own slice.
+// A plan record, and "record k" of plan bytes: a part of the caller's own slice.
 ghost use Rattle.std.specs.Prelude.{◌≡◌};
 ghost use Rattle.plans.specs.Record.{record_part, record_place};
+
+// Where code needs a record's width, where a byte of its own stands or what stands behind its vertices, it goes by these names.
+#[derive(Clone, Copy)]
+pub struct PlanRecord {}
+
+impl PlanRecord {
+    pub const WIDTH: usize = 16;
+
+    pub const KIND: usize = 14;
+
+    pub const SERVED: usize = 15;
+
+    pub const FILLER: u8 = 255;
+}
 
 // The sixteen bytes of record k, where k + 1 whole records stand there; else an empty part at the start of the plan.
 pub fn record(plan: &[u8], k: usize) -> &[u8]
     ensures contents { result.now ≡ record_part plan.now k }
     ensures place { result.ref_ptr ≡ record_place plan.entry.ref_ptr plan.now k }
 {
-    let records = plan.len() / 16;
+    let records = plan.len() / PlanRecord::WIDTH;
     if k < records {
-        let at = 16 * k;
-        &plan[at..at + 16]
+        let at = PlanRecord::WIDTH * k;
+        &plan[at..at + PlanRecord::WIDTH]
     } else {
         &plan[0..0]
     }

@@ -6,14 +6,14 @@ use Rattle.plans.proofs.check_record.ends_right.Goals as goal
 pub returns-in-67 : goal.returns-in-67
 returns-in-67 c =
     let k = c.requires.listed in
-    ends_chain _ (fits_formed c.args.pool c.requires.t) _ c.args.vertices.now k.vertices k.some c.requires.t_2 c.in-67.is
+    ends_chain _ (fits_formed c.args.rules.now.pool c.args.rules.now.pool_fits) _ c.args.vertices.now k.vertices k.some c.requires.joined c.in-67.is
 
 pub returns-in-82 : goal.returns-in-82
 returns-in-82 c =
     let k = c.requires.listed in
-    ends_cycle _ (fits_formed c.args.pool c.requires.t) _ c.args.vertices.now k.vertices k.some c.requires.t_2 c.in-82.is
+    ends_cycle _ (fits_formed c.args.rules.now.pool c.args.rules.now.pool_fits) _ c.args.vertices.now k.vertices k.some c.requires.joined c.in-82.is
 
 pub returns-in_default : goal.returns-in_default
 returns-in_default c =
     let k = c.requires.listed in
-    ends_other _ (fits_formed c.args.pool c.requires.t) _ c.args.vertices.now k.vertices k.some c.requires.t_2 (λ e. omega arith) (λ e. omega arith)
+    ends_other _ (fits_formed c.args.rules.now.pool c.args.rules.now.pool_fits) _ c.args.vertices.now k.vertices k.some c.requires.joined (λ e. omega arith) (λ e. omega arith)

@@ -1,36 +1,41 @@
-use mathlib.Core.Path.{sym, ◌∙◌, ap}
+use borrow.Author.Rules.{rules}
+use mathlib.Core.Path.{◌≡◌, sym}
+use Prim.Native.Nat.{◌%◌, ◌/◌, ◌<◌}
 use native.Mathlib.Omega.{arith}
 use lib.ListN.{length}
+use Rattle.kep.proofs.Cut.{chunk_at}
 use Rattle.pool.proofs.ValueLaws.{fits_size}
-use Rattle.kep.proofs.Cut.{part, part_length}
 use Rattle.plans.proofs.PlanChecked.{check_length}
 use Rattle.plans.proofs.CheckSteps.{checking_start, checking_end, checking_most}
 use Rattle.plans.proofs.CheckLoop.{turn_stop, turn_next}
 use Rattle.plans.proofs.checker.check_records.Goals as goal
 
-pub returns-then-plan-ne0 : goal.returns-then-plan-ne0
-returns-then-plan-ne0 c = sym (check_length _ _ _ c.args.plan.now c.if-plan-ne0.true)
+pub returns-then-not-is_empty : goal.returns-then-not-is_empty
+returns-then-not-is_empty c =
+    let uneven : length c.args.plan.now % 16 ≡ 0 → ⊥ = λ e. search rules in
+    rw c.into.ensures (sym (check_length _ _ _ c.args.plan.now uneven))
 
-pub loop-k-init : goal.loop-k-init
-loop-k-init c = (omega arith, checking_start _ _ _ c.args.plan.now c.if-plan-ne0.false)
+pub loop-at-init : goal.loop-at-init
+loop-at-init c = checking_start _ _ _ c.args.plan.now (search rules)
 
-pub check_record-answer-requires : goal.check_record-answer-requires
-check_record-answer-requires c =
+pub check_record-requires : goal.check_record-requires
+check_record-requires c =
+    let rules = c.args.rules.now in
+    omega (arith, checking_most _ _ _ c.args.plan.now c.loop-at.invariant, fits_size rules.pool rules.pool_fits)
+
+pub returns-in-Err : goal.returns-in-Err
+returns-in-Err c =
     let plan = c.args.plan.now in
-    let most = checking_most _ _ _ plan c.loop-k.invariant.1 in
-    record {
-      t = c.requires;
-      served_bound = omega (arith, most, fits_size c.args.pool c.requires);
-      bytes_len = ap length (part 16 c.loop-k.k plan) ∙ part_length 16 c.loop-k.k plan (omega arith);
-    }
+    let at = c.loop-at.at in
+    let h : at < length plan / 16 = omega (arith, c.as_chunks.ensures.front_len) in
+    turn_stop c.loop-at.invariant h (rw (chunk_at 16 _ at plan c.as_chunks.ensures.front h) at c.check_record.ensures) c.in-Err.is
 
-pub returns-in-Refused : goal.returns-in-Refused
-returns-in-Refused c =
-    turn_stop c.loop-k.invariant.1 c.loop-k-test.true c.check_record-answer.ensures c.in-Refused.is
-
-pub loop-k-preserved : goal.loop-k-preserved
-loop-k-preserved c =
-    (omega arith, turn_next c.loop-k.invariant.1 c.loop-k-test.true c.check_record-answer.ensures c.in-Accepted.is)
+pub loop-at-preserved : goal.loop-at-preserved
+loop-at-preserved c =
+    let plan = c.args.plan.now in
+    let at = c.loop-at.at in
+    let h : at < length plan / 16 = omega (arith, c.as_chunks.ensures.front_len) in
+    turn_next c.loop-at.invariant h (rw (chunk_at 16 _ at plan c.as_chunks.ensures.front h) at c.check_record.ensures) c.in-Ok.is
 
 pub returns : goal.returns
-returns c = sym (checking_end _ _ _ _ c.loop-k.invariant.1 c.loop-k-test.false)
+returns c = sym (checking_end _ _ _ _ c.loop-at.invariant (omega (arith, c.as_chunks.ensures.front_len)))
