@@ -1,16 +1,17 @@
 -- The sets that begin at one vertex, filled in turn: pass one by jumps over those of too many vertices, pass two over all; and vertex after
 -- vertex.
-use mathlib.Core.Bool.{Bool, true, false, ◌||◌}
+use mathlib.Core.Bool.{Bool, true, false}
 use mathlib.Core.List.{List}
 use mathlib.Core.Logic.{◌≢◌, ◌⊎◌, inl, inr}
-use mathlib.Core.Path.{◌≡◌, ap, sym, refl, ◌∙◌, subst}
+use Rattle.std.specs.Prelude.{Option, Some, None}
+use mathlib.Core.Path.{◌≡◌, ap, ap₂, sym, refl, ◌∙◌, subst}
 use Prim.Native.Nat.{ℕ, suc, ◌+◌, ◌-◌, ◌*◌, ◌/◌, ◌%◌, ◌^◌, ◌≤◌, ◌<◌}
 use native.Mathlib.Decide.{ℕ_discrete, dec_lt}
 use native.Mathlib.Nat.{eq-zero-or-pos, mod-eq_of_lt}
 use native.Mathlib.Omega.{arith}
 use lib.Bits.{bit_and, and_zero_l, and_zero_r}
 use lib.Count.{ones, ones-le, ones_cat}
-use lib.Dec.{T, leb, leb→le}
+use lib.Dec.{T}
 use lib.ListN.{length, length-set, get_or, set}
 use lib.Seq.{get_or-set_same, get_or-set_other}
 use lib.Pow.{pow_pos, pow-lt, pow_mono, split, shr_lt}
@@ -25,11 +26,11 @@ use Rattle.kep.proofs.LowestBit.{remainder_lowest, lowest_remainder, remainder_m
 use Rattle.kep.specs.computed.Table.{entry}
 use Rattle.kep.specs.inner.Filling.{ends}
 use Rattle.exchanges.specs.inner.Changed.{Changed}
-use Rattle.exchanges.specs.inner.ByLowest.{Begins, Allowed, Next, Held, Spare, Known, ends_within, kept_within, limit_at}
+use Rattle.exchanges.specs.inner.ByLowest.{Begins, Closes, Allowed, Next, Held, Known, ends_within, closing_at, kept_of, limit_at}
 use Rattle.exchanges.proofs.Changed.{changed_none, changed_store, changed_over}
 use Rattle.kep.proofs.Ends.{ends_alone, ends_none}
 use Rattle.kep.proofs.EntryMeaning.{entry_empty, entry_altruist}
-use Rattle.exchanges.proofs.Keeping.{Closes, lowest_of, ones_alone, chain_entry}
+use Rattle.exchanges.proofs.Keeping.{lowest_of, ones_alone, chain_entry}
 
 -- ---- the sets that begin at l
 
@@ -39,7 +40,7 @@ begins_alone l = record { remainder = mod-eq_of_lt (omega (arith, pow_pos l)) }
 -- the numbers that code steps by
 pub record Numbers (l n : ℕ) : Type 0 where
   pub first : 1 * 2 ^ l % 2 ^ 64 ≡ 2 ^ l
-  pub step : 1 * 2 ^ l % 2 ^ 64 + 1 * 2 ^ l % 2 ^ 64 ≡ 2 ^ suc l
+  pub stride : 2 * (1 * 2 ^ l % 2 ^ 64) ≡ 2 ^ suc l
   pub sets : 1 * 2 ^ n % 2 ^ 64 ≡ 2 ^ n
   pub some : 0 < 2 ^ l
   pub inside : 2 ^ suc l ≤ 2 ^ n
@@ -48,7 +49,7 @@ pub record Numbers (l n : ℕ) : Type 0 where
 pub numbers_are : {l n : ℕ} → l < n → n ≤ 14 → Numbers l n
 numbers_are {l} {n} h few =
     let first : 1 * 2 ^ l % 2 ^ 64 ≡ 2 ^ l = one_shl 64 l (omega arith) in
-    record { first = first; some = pow_pos l; step = omega arith; sets = one_shl 64 n (omega arith); inside = pow_mono h; few = pow_mono few }
+    record { first = first; some = pow_pos l; stride = omega arith; sets = one_shl 64 n (omega arith); inside = pow_mono h; few = pow_mono few }
 
 module _ {l s : ℕ} (b : Begins l s) where
   pub begins_next : Begins l (s + 2 ^ suc l)
@@ -121,12 +122,12 @@ first_set {l} (inr (two, e)) = rw e (
 )
 
 -- as code finds it
-module _ {l cap s size first : ℕ} (f : first ≡ 2 ^ l) (k : size ≡ ones s) (ok : Allowed l cap s) where
-  pub steps : size < cap → Next l cap s (s + 2 * first)
-  steps less = let double : 2 * first ≡ 2 ^ suc l = omega arith in rw double (next_step ok.begins ok.fits (omega arith))
+module _ {l cap s first : ℕ} (f : first ≡ 2 ^ l) (ok : Allowed l cap s) where
+  pub steps : ones s < cap → Next l cap s (s + 2 * first)
+  steps less = let double : 2 * first ≡ 2 ^ suc l = omega arith in rw double (next_step ok.begins ok.fits less)
 
-  pub jumps : cap ≤ size → Next l cap s (s + (s - first - bit_and (s - first - 1) (s - first)))
-  jumps full = rw (f, lowest_bit (s - 2 ^ l) (omega (arith, ok.more))) (next_jump ok.begins ok.fits ok.more (omega arith))
+  pub jumps : cap ≤ ones s → Next l cap s (s + (s - first - bit_and (s - first - 1) (s - first)))
+  jumps full = rw (f, lowest_bit (s - 2 ^ l) (omega (arith, ok.more))) (next_jump ok.begins ok.fits ok.more full)
 
 pub next_allowed : {l cap s next : ℕ} → Allowed l cap s → Next l cap s next → Allowed l cap next
 next_allowed ok n = record { begins = n.begins; more = omega (arith, ok.more, n.further); fits = n.few }
@@ -207,46 +208,36 @@ module _ (g : Graph) (l n cap : ℕ) {d : List ℕ} (room : 2 ^ n ≤ length d) 
 
 -- ---- pass two
 
-module _ (l n cap closing : ℕ) (d : List ℕ) where
+module _ (l n closing : ℕ) (most : Option ℕ) (d : List ℕ) where
   abbrev Kept : ℕ → List ℕ → Type 0
-  Kept k t = Changed (λ i. (i < 2 ^ n) × Begins l i) k (kept_within cap closing d) d t
+  Kept k t = Changed (λ i. (i < 2 ^ n) × Begins l i) k (kept_of most closing d) d t
 
   pub kept_start : Kept (2 ^ l) d
   kept_start = changed_none (2 ^ l) (λ i b c. absurd (omega (arith, begins_le c.1)))
 
-  pub kept_more : {t : List ℕ} {s : ℕ} (kept : ℕ) → 2 ^ n ≤ length d → s < 2 ^ n → Begins l s → Kept s t → bit_and (get_or d s 0) kept ≡ kept_within cap closing d s
+  pub kept_more : {t : List ℕ} {s kept : ℕ} → 2 ^ n ≤ length d → s < 2 ^ n → Begins l s → Kept s t → kept ≡ closing_at most closing s
       → Kept (s + 2 ^ suc l) (set t s (bit_and (get_or t s 0) kept))
-  kept_more {t} {s} kept room small b c e =
-      changed_store (s + 2 ^ suc l) c (omega arith) (small, b) (ap (λ (x : ℕ). bit_and x kept) (c.kept s (λ m _. omega arith)) ∙ e) (omega (arith, pow_pos l))
+  kept_more {t} {s} room small b c e =
+      changed_store (s + 2 ^ suc l) c (omega arith) (small, b) (ap₂ bit_and (c.kept s (λ m _. omega arith)) e) (omega (arith, pow_pos l))
       (λ i m k h. absurd (omega (arith, remainder_apart l b.remainder h.1.remainder m)))
 
--- where the limit allows as many vertices as there are
-pub few_spare : (l n cap : ℕ) (d : List ℕ) → l < n → Spare (leb n (cap + l)) l cap (2 ^ n) d
-few_spare l n cap d h = record { none = λ t s small b more. absurd (omega (arith, leb→le n (cap + l) t, ones_few l n s h small b)) }
+-- what is kept of the ends of paths is the entry, where larger sets have none
+module _ {g : Graph} {lc lp l n : ℕ} {f : ℕ → ℕ} {d between after : List ℕ} {closing : ℕ} (closes : Closes g lc lp l closing)
+    (c : Changed (Begins l) n f d between) (same : (s : ℕ) → s < n → Begins l s → ones s ≤ limit_at g lc lp l → f s ≡ ends g s) where
+  pub kept_counted : Changed (Begins l) n (kept_of (Some (limit_at g lc lp l)) closing between) between after → Changed (Begins l) n (entry g lc lp) d after
+  kept_counted k = changed_over c k (λ s small b. go s small b (dec_lt (limit_at g lc lp l) (ones s)))
+    where
+      go : (s : ℕ) → s < n → (b : Begins l s) → Dec (limit_at g lc lp l < ones s) → kept_of (Some (limit_at g lc lp l)) closing between s ≡ entry g lc lp s
+      go s small b (yes more) = rw (closes.each s b, lt-leb (ones s) (limit_at g lc lp l) more) (and_zero_r (get_or between s 0))
+      go s small b (no few) = rw (closes.each s b, c.done s small b ∙ same s small b (omega arith), le-leb (ones s) (limit_at g lc lp l) (omega arith))
 
--- what is kept of an entry, as code works it out
-pub kept_by : (few : Bool) (l cap n closing : ℕ) (d : List ℕ) → Spare few l cap n d → (s : ℕ) → s < n → Begins l s
-    → bit_and (get_or d s 0) (counted (few || leb (ones s) cap) closing) ≡ kept_within cap closing d s
-kept_by few l cap n closing d spare s small b = go few spare (dec_lt cap (ones s))
-  where
-    go : (few : Bool) → Spare few l cap n d → Dec (cap < ones s) → bit_and (get_or d s 0) (counted (few || leb (ones s) cap) closing) ≡ kept_within cap closing d s
-    go true spare (yes more) = rw (spare.none tt s small b more, lt-leb (ones s) cap more) (and_zero_l closing)
-    go false spare (yes more) = rw (lt-leb (ones s) cap more) (and_zero_r (get_or d s 0))
-    go true spare (no n) = rw (le-leb (ones s) cap (omega arith))
-    go false spare (no n) = rw (le-leb (ones s) cap (omega arith))
-
--- so the entries are found
-pub kept_entries : (g : Graph) (lc lp l n : ℕ) {closing : ℕ} {f : ℕ → ℕ} {d between after : List ℕ} → Closes g lc lp l closing → Changed (Begins l) n f d between
-    → ((s : ℕ) → s < n → Begins l s → ones s ≤ limit_at g lc lp l → f s ≡ ends g s) → Changed (Begins l) n (kept_within (limit_at g lc lp l) closing between) between after
-    → Changed (Begins l) n (entry g lc lp) d after
-kept_entries g lc lp l n {closing} {f} {d} {between} closes c same k = changed_over c k (λ s small b. go s small b (dec_lt (limit_at g lc lp l) (ones s)))
-  where
-    go : (s : ℕ) → s < n → (b : Begins l s) → Dec (limit_at g lc lp l < ones s) → kept_within (limit_at g lc lp l) closing between s ≡ entry g lc lp s
-    go s small b (yes more) = rw (closes.each s b, lt-leb (ones s) (limit_at g lc lp l) more)
-    go s small b (no few) = rw (closes.each s b, c.done s small b ∙ same s small b (omega arith))
-
-pub held_as : {a b : Bool} {g : Graph} {l n : ℕ} {d : List ℕ} → a ≡ b → Held a g l n d → Held b g l n d
-held_as {g = g} e held = record { each = λ s small b. held.each s small b ∙ ap (λ (c : Bool). counted c (ends g s)) e }
+  pub kept_all : ((s : ℕ) → s < n → Begins l s → limit_at g lc lp l < ones s → f s ≡ 0) → Changed (Begins l) n (kept_of None closing between) between after
+      → Changed (Begins l) n (entry g lc lp) d after
+  kept_all spare k = changed_over c k (λ s small b. go s small b (dec_lt (limit_at g lc lp l) (ones s)))
+    where
+      go : (s : ℕ) → s < n → (b : Begins l s) → Dec (limit_at g lc lp l < ones s) → kept_of None closing between s ≡ entry g lc lp s
+      go s small b (yes more) = rw (closes.each s b, c.done s small b ∙ spare s small b more, lt-leb (ones s) (limit_at g lc lp l) more) (and_zero_l closing)
+      go s small b (no few) = rw (closes.each s b, c.done s small b ∙ same s small b (omega arith), le-leb (ones s) (limit_at g lc lp l) (omega arith))
 
 -- for an altruist pass two is one store
 pub chains_entered : (g : Graph) → WellFormed g → (lc lp l n : ℕ) → l < n → l < g.altruists → {d t : List ℕ} → 2 ^ n ≤ length d

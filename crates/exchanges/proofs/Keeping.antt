@@ -15,7 +15,7 @@ use Rattle.kep.specs.Sets.{has, counted, Part}
 use Rattle.kep.specs.inner.Lowest.{lowest}
 use Rattle.kep.specs.computed.Table.{entry}
 use Rattle.kep.specs.inner.Filling.{ends, mask_at, masked, comes}
-use Rattle.exchanges.specs.inner.ByLowest.{Begins, limit_at}
+use Rattle.exchanges.specs.inner.ByLowest.{Begins, Closes, limit_at}
 use Rattle.kep.proofs.SetLaws.{lowest_eq, has_full}
 use Rattle.kep.proofs.Parts.{part_and, disjoint_and, rest_disjoint}
 use Rattle.kep.proofs.Vertices.{in_power, in_without, power_part, bit_le}
@@ -24,10 +24,6 @@ use Rattle.kep.proofs.Sifting.{in_sift}
 use Rattle.kep.proofs.Ends.{in_later, ends_several, ends_alone}
 use Rattle.kep.proofs.EntryMeaning.{entry_altruist}
 use Rattle.kep.proofs.Masking.{masked_entry}
-
--- the vertices that an exchange which begins at l may end at
-pub record Closes (g : Graph) (lc lp l closing : ℕ) : Type 0 where
-  pub each : (s : ℕ) → Begins l s → entry g lc lp s ≡ counted (leb (ones s) (limit_at g lc lp l)) (bit_and (ends g s) closing)
 
 pub ones_alone : (l : ℕ) → ones (2 ^ l) ≡ 1
 ones_alone l = let none : 2 ^ l - 2 ^ l ≡ 0 = omega arith in ones_without (2 ^ l) l ((in_power l l).1 refl) ∙ rw none (omega (arith, ones_none))

@@ -8,11 +8,11 @@ use lib.Bits.{bit_and, bit_or}
 use lib.Count.{count_trailing_zeros}
 use lib.Dec.{eqb}
 use lib.ListN.{get_or}
-use Rattle.pool.specs.declared.value.Pool.{Pool}
+use Rattle.exchanges.specs.declared.filling.Filling.{Filling}
 use Rattle.kep.specs.inner.Lowest.{lowest}
 use Rattle.pool.specs.Value.{graph_of}
 use Rattle.kep.specs.inner.Filling.{ends, comes}
-use Rattle.exchanges.specs.inner.ByLowest.{Prepared, Known}
+use Rattle.exchanges.specs.inner.ByLowest.{Known}
 use Rattle.exchanges.specs.inner.Abreast.{bit_where}
 use Rattle.kep.proofs.SetLaws.{has_below}
 use Rattle.kep.proofs.Parts.{part_le}
@@ -38,11 +38,11 @@ module _ (gs table : List ℕ) (s : ℕ) {m left found : ℕ} (wide : m < 2 ^ 64
   look e = sifting_turn some h wide (rw (e, trailing, lowest_bit left some))
 
 -- after the last: where the table holds the ends on the sets without a vertex of m
-pub looked : {p : Pool} {gs table : List ℕ} {s m found : ℕ} → Prepared p gs → Known (graph_of p) s m table → m < 2 ^ 64 → m < 2 ^ p.size → (left : ℕ) → left ≡ 0
-    → Sifting 64 (is_open gs table s) m left found → found ≡ sift p.size (comes (graph_of p) (ends (graph_of p)) s) m
+pub looked : (f : Filling) {table : List ℕ} {s m found : ℕ} → Known (graph_of f.pool) s m table → m < 2 ^ 64 → m < 2 ^ f.pool.size → (left : ℕ) → left ≡ 0
+    → Sifting 64 (is_open f.givers table s) m left found → found ≡ sift f.pool.size (comes (graph_of f.pool) (ends (graph_of f.pool)) s) m
 unfolding is_open comes
-looked {p} {gs} {table} {s} {m} known smaller wide b left none h =
+looked f {table} {s} {m} smaller wide b left none h =
     sifting_done none h
-    ∙ sift_wide 64 p.size m (is_open gs table s) wide b
-    ∙ sift_same p.size m (is_open gs table s) (comes (graph_of p) (ends (graph_of p)) s)
-    (λ u i. rw (smaller.each u i, known_givers known u (has_below p.size m u b i)))
+    ∙ sift_wide 64 f.pool.size m (is_open f.givers table s) wide b
+    ∙ sift_same f.pool.size m (is_open f.givers table s) (comes (graph_of f.pool) (ends (graph_of f.pool)) s)
+    (λ u i. rw (smaller.each u i, known_givers f u (has_below f.pool.size m u b i)))

@@ -5,8 +5,8 @@ ghost use Rattle.tables.specs.Calls.{filled_outcome};
 ghost use Rattle.pool.specs.Refusals.{accepted, outcome_of, tested};
 ghost use Rattle.exchanges.specs.ExchangesCall.{exchanges_tests, exchanges_outcome, exchanges_left};
 
-use crate::by_lowest::fill_by_lowest;
-use pool::{Cause, Limits, Pool, Refusal, Verdict, all_givers};
+use crate::filling::Filling;
+use pool::{Cause, Limits, Pool, Refusal, Verdict};
 use tables::Filled;
 
 // Fills the entries of all sets of the pool's places. Refuses by 6, 7 and 8, in that order, and then leaves the table as it was.
@@ -18,10 +18,8 @@ pub fn fill_exchanges(pool: Pool, limits: Limits, table: &mut [u16]) -> Filled
     if let Verdict::Refused(refusal) = verdict {
         return Filled::Refused(refusal);
     }
-    let givers = all_givers(pool);
-    fill_by_lowest(pool, limits, &givers, table);
-    let entries = 1usize << pool.size;
-    Filled::Entries(entries)
+    Filling::new(pool, limits).fill_by_lowest(table);
+    Filled::Entries(1usize << pool.size)
 }
 
 // Causes 6, 7 and 8, by the length of the table.

@@ -4,6 +4,7 @@
 mod abreast;
 mod by_lowest;
 mod exchanges;
+mod filling;
 mod path_ends;
 
 pub use exchanges::{fill_exchanges, test_exchanges};

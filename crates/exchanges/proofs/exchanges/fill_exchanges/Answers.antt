@@ -1,6 +1,8 @@
 use mathlib.Core.Path.{◌≡◌}
 use Prim.Native.Nat.{ℕ}
 use native.Mathlib.Omega.{arith}
+use Rattle.kep.proofs.Tests.{is_true}
+use Rattle.pool.specs.Value.{pool_fits}
 use Rattle.pool.specs.declared.limits.Limits.{Limits}
 use Rattle.pool.specs.declared.value.Pool.{Pool}
 use Rattle.pool.specs.declared.refusal.Verdict.{Verdict}
@@ -22,16 +24,18 @@ returns-in-Refused c =
     let told = leaves c.args.pool c.args.limits c.args.table.now (outcome_refused c.args.pool c.in-Refused.is c.test_exchanges-verdict.ensures) in
     record { outcome = told.0; left = told.1 }
 
+pub new-requires : goal.new-requires
+new-requires c =
+    let h = holds c.args.pool c.args.limits _ c.in_default.is c.test_exchanges-verdict.ensures in
+    is_true (pool_fits c.args.pool) h.fits
+
 pub fill_by_lowest-requires : goal.fill_by_lowest-requires
 fill_by_lowest-requires c =
     let h = holds c.args.pool c.args.limits _ c.in_default.is c.test_exchanges-verdict.ensures in
-    record {
-      prepared = record { fits = h.fits; given = c.all_givers-givers.ensures };
-      size_in_bounds = h.long;
-    }
+    record { room = rw c.new.ensures.pool h.long }
 
-pub overflow_shl-entries : goal.overflow_shl-entries
-overflow_shl-entries c =
+pub overflow_shl-result : goal.overflow_shl-result
+overflow_shl-result c =
     let h = holds c.args.pool c.args.limits _ c.in_default.is c.test_exchanges-verdict.ensures in
     omega (arith, fits_size c.args.pool h.fits)
 
@@ -40,5 +44,6 @@ returns c =
     let a = c.args in
     let h = holds a.pool a.limits _ c.in_default.is c.test_exchanges-verdict.ensures in
     let told = outcome_accepted c.in_default.is c.test_exchanges-verdict.ensures in
-    let done = filled a.pool a.limits a.table.now told (entries_are a.pool h.fits) c.fill_by_lowest.ensures in
+    let written = rw (c.new.ensures.pool, c.new.ensures.limits) at c.fill_by_lowest.ensures in
+    let done = filled a.pool a.limits a.table.now told (entries_are a.pool h.fits) written in
     record { outcome = done.0; left = done.1 }

@@ -1,0 +1,21 @@
+use mathlib.Core.Path.{ap}
+use native.Mathlib.Omega.{arith}
+use Prim.Native.Nat.{ℕ, ◌-◌}
+use Rattle.pool.specs.Value.{graph_of}
+use Rattle.kep.proofs.Operations.{one_shl}
+use Rattle.pool.proofs.ValueLaws.{fits_formed}
+use Rattle.exchanges.proofs.Given.{fits, few, known_givers}
+use Rattle.exchanges.proofs.Keeping.{member_closes, altruist_closes}
+use Rattle.exchanges.proofs.filling.Filling.closing_of.Goals as goal
+
+pub returns-then-low-self : goal.returns-then-low-self
+returns-then-low-self c =
+    let f = c.args.self.now in
+    let l = c.args.low in
+    altruist_closes (graph_of f.pool) (fits_formed f.pool (fits f)) f.limits.cycle f.limits.chain l (few f) c.requires c.if-low-self.true
+    (ap (λ (x : ℕ). 65535 - x) (one_shl 16 l (omega (arith, few f))))
+
+pub returns-else-low-self : goal.returns-else-low-self
+returns-else-low-self c =
+    let f = c.args.self.now in
+    member_closes (graph_of f.pool) (fits_formed f.pool (fits f)) f.limits.cycle f.limits.chain c.args.low c.if-low-self.false (known_givers f c.args.low c.requires)

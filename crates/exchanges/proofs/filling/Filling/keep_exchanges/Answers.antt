@@ -1,0 +1,21 @@
+use mathlib.Core.Path.{refl}
+use Prim.Native.Nat.{◌^◌}
+use native.Mathlib.Omega.{arith}
+use Rattle.exchanges.proofs.Changed.{changed_none}
+use Rattle.exchanges.proofs.ByLowest.{kept_counted, kept_all, ones_few}
+use Rattle.exchanges.proofs.filling.Filling.keep_exchanges.Goals.{then-self-most, else-self-most}
+use Rattle.exchanges.proofs.filling.Filling.keep_exchanges.Goals as goal
+
+pub returns : goal.returns
+returns c =
+    let a = c.args in
+    let f = a.self.now in
+    let limit = c.limit_of-most.ensures.limit in
+    let held = changed_none (2 ^ f.pool.size) c.requires.held.each in
+    elim c.if-self-most.branch [
+      | then-self-most w ↦
+          kept_all c.closing_of.ensures held (λ _ _ _ _. refl)
+          (λ s small b more. absurd (omega (arith, w.if-self-most.true, limit, ones_few a.low f.pool.size s c.requires.in_pool small b)))
+          (rw w.counted-is at c.keep_ends.ensures)
+      | else-self-most w ↦ kept_counted c.closing_of.ensures held (λ _ _ _ _. refl) (rw (w.counted-is, limit) at c.keep_ends.ensures)
+    ]

@@ -1,0 +1,32 @@
+// What one filling of the exchange table goes by.
+ghost use Rattle.std.specs.Prelude.{◌≡◌, IsTrue};
+ghost use Rattle.kep.specs.Lists.{tabulate};
+ghost use Rattle.kep.specs.Graph.{givers as giver_set};
+ghost use Rattle.pool.specs.Value.{graph_of, pool_fits};
+
+use pool::{Limits, Pool, all_givers};
+
+// A pool that passes its test, the limits, and the givers of every vertex, worked out once.
+#[derive(Drop)]
+pub(crate) struct Filling {
+    pub pool: Pool,
+    pub limits: Limits,
+    pub givers: [u16; 14],
+    ghost fits: { IsTrue (pool_fits pool) },
+    ghost given: { givers ≡ tabulate (giver_set (graph_of pool)) 14 },
+}
+
+impl Filling {
+    pub(crate) fn new(pool: Pool, limits: Limits) -> Filling
+        requires { IsTrue (pool_fits pool) }
+        ensures pool { result.pool ≡ pool }
+        ensures limits { result.limits ≡ limits }
+    {
+        let givers = all_givers(pool);
+        Filling {
+            pool,
+            limits,
+            givers,
+        }
+    }
+}
