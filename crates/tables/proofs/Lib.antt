@@ -1,2 +1,3 @@
 pub mod BestCode
 pub mod BestCall
+pub mod FromFn

@@ -3,10 +3,10 @@ ghost use Rattle.std.specs.Prelude.{◌≡◌, ℕ, ◌^◌, ◌≤◌, ◌<◌,
 ghost use Rattle.kep.specs.Lists.{written_to};
 ghost use Rattle.tables.specs.Calls.{filled_outcome, marked, best_outcome, best_left};
 ghost use Rattle.kep.specs.computed.Table.{best};
-ghost use Rattle.kep.specs.inner.BestFilling.{Worths, worth_by, offer, best_offered, next_best};
+ghost use Rattle.kep.specs.inner.BestFilling.{worth_by, offer, best_offered, next_best};
 
 use crate::filled::Filled;
-use crate::worths::{fill_worths, vertex_worths};
+use crate::worths::VertexWorths;
 use pool::{Cause, Pool, Refusal, Verdict};
 
 // Fills the best table from the marks of a lent exchange table, whatever that holds: 6, 8, 9, or the entries written.
@@ -18,8 +18,7 @@ pub fn fill_best(pool: Pool, exchanges: &[u16], table: &mut [u32]) -> Filled
     if let Verdict::Refused(refusal) = verdict {
         return Filled::Refused(refusal);
     }
-    let size = pool.size as usize;
-    let entries = 1usize << size;
+    let entries = 1usize << pool.size;
     if exchanges.len() < entries {
         return Filled::Refused(Refusal {
             cause: Cause::ExchangeTable,
@@ -32,76 +31,71 @@ pub fn fill_best(pool: Pool, exchanges: &[u16], table: &mut [u32]) -> Filled
             at: 0,
         });
     }
-    let worths = vertex_worths(pool);
-    fill_by(size, &worths, exchanges, table);
+    VertexWorths::new(pool).fill_best(exchanges, table);
     Filled::Entries(entries)
 }
 
-// The same for any worths of `size` vertices, told in `each`. What the sets offer is kept in an array of this call: of few vertices in a small one,
-// since to empty the large one takes as long as to fill their table.
-fn fill_by(size: usize, each: &[u32], exchanges: &[u16], table: &mut [u32])
-    requires worths { Worths size each.now }
-    requires size_in_bounds { 2 ^ size ≤ length exchanges.now }
-    requires size_in_bounds_2 { 2 ^ size ≤ length table.old }
-    ensures { table.new ≡ written_to (best (worth_by each.now size) (marked exchanges.now)) (2 ^ size) table.old }
-{
-    if size < 9 {
-        let mut offers = [0u32; 256];
-        fill_over(size, each, exchanges, &mut offers, table);
-    } else {
-        let mut offers = [0u32; 16384];
-        fill_over(size, each, exchanges, &mut offers, table);
+impl VertexWorths {
+    // The same for any worths of vertices. What the sets offer is kept in an array of this call: of few vertices in a small one,
+    // since to empty the large one takes as long as to fill their table.
+    fn fill_best(&self, exchanges: &[u16], table: &mut [u32])
+        requires exchanges_long { 2 ^ self.now.size ≤ length exchanges.now }
+        requires table_long { 2 ^ self.now.size ≤ length table.old }
+        ensures { table.new ≡ written_to (best (worth_by self.now.each self.now.size) (marked exchanges.now)) (2 ^ self.now.size) table.old }
+    {
+        if self.size < 9 {
+            self.fill_best_by::<256>(exchanges, table);
+        } else {
+            self.fill_best_by::<16384>(exchanges, table);
+        }
     }
-}
 
-// The table holds the worths of the sets until the entries are written over them.
-fn fill_over(size: usize, each: &[u32], exchanges: &[u16], offers: &mut [u32], table: &mut [u32])
-    requires worths { Worths size each.now }
-    requires size_in_bounds { 2 ^ size ≤ length exchanges.now }
-    requires size_in_bounds_2 { 2 ^ size ≤ length offers.old }
-    requires size_in_bounds_3 { 2 ^ size ≤ length table.old }
-    ensures { table.new ≡ written_to (best (worth_by each.now size) (marked exchanges.now)) (2 ^ size) table.old }
-{
-    let entries = 1usize << size;
-    fill_worths(size, each, table);
-    fill_offers(entries, exchanges, table, offers);
-    fill_entries(entries, offers, table);
+    // The table holds the worths of the sets until the entries are written over them.
+    fn fill_best_by<const OFFERS: usize>(&self, exchanges: &[u16], table: &mut [u32])
+        requires offers_long { 2 ^ self.now.size ≤ OFFERS }
+        requires offers_fit { OFFERS ≤ 2 ^ 14 }
+        requires exchanges_long { 2 ^ self.now.size ≤ length exchanges.now }
+        requires table_long { 2 ^ self.now.size ≤ length table.old }
+        ensures { table.new ≡ written_to (best (worth_by self.now.each self.now.size) (marked exchanges.now)) (2 ^ self.now.size) table.old }
+    {
+        let entries = 1usize << self.size;
+        let mut offers = [0u32; OFFERS];
+        self.fill_worths(table);
+        fill_offers(entries, exchanges, table, &mut offers);
+        fill_entries(entries, &offers, table);
+    }
 }
 
 // What each set offers: its worth where it is marked, else 0. Every try looks one up, so they are worked out once.
 fn fill_offers(entries: usize, exchanges: &[u16], worths: &[u32], offers: &mut [u32])
-    requires entries_in_bounds { entries ≤ length exchanges.now }
-    requires entries_in_bounds_2 { entries ≤ length worths.now }
-    requires entries_in_bounds_3 { entries ≤ length offers.old }
+    requires exchanges_long { entries ≤ length exchanges.now }
+    requires worths_long { entries ≤ length worths.now }
+    requires offers_long { entries ≤ length offers.old }
     ensures { offers.new ≡ written_to (offer (λ t. get_or worths.now t 0) (marked exchanges.now)) entries offers.old }
 {
-    let mut t: usize = 0;
-    while t < entries {
+    for t in 0..entries {
         let worth = worths[t];
         offers[t] = if exchanges[t] == 0 { 0 } else { worth };
-        t += 1;
     }
 }
 
 // Every entry, upward: each from those before it.
 fn fill_entries(entries: usize, offers: &[u32], table: &mut [u32])
-    requires entries_in_bounds { entries ≤ length offers.now }
-    requires entries_in_bounds_2 { entries ≤ length table.old }
-    requires by_index { (s : ℕ) → s < entries → best_offered offers.now s < 2 ^ 32 }
+    requires offers_long { entries ≤ length offers.now }
+    requires table_long { entries ≤ length table.old }
+    requires small { (s : ℕ) → s < entries → best_offered offers.now s < 2 ^ 32 }
     ensures { table.new ≡ written_to (best_offered offers.now) entries table.old }
 {
-    let mut s: usize = 0;
-    while s < entries {
+    for s in 0..entries {
         table[s] = best_entry(s, offers, table) as u32;
-        s += 1;
     }
 }
 
 // Entry s, from what each set offers and the entries before it: every nonempty part t of s is tried, from s itself down. No branch
 // asks whether t is marked: an unmarked part only brings the entry of what is left, which is never above that of s.
 fn best_entry(s: usize, offers: &[u32], table: &[u32]) -> usize
-    requires s_in_bounds { s < length offers.now }
-    requires s_in_bounds_2 { s < length table.now }
+    requires offers_long { s < length offers.now }
+    requires table_long { s < length table.now }
     ensures { result ≡ next_best offers.now table.now s }
 {
     let mut found: usize = 0;

@@ -10,7 +10,7 @@ use Rattle.pool.specs.Value.{pool_fits, test_pool}
 use Rattle.pool.proofs.Tested.{outcome_accepted, outcome_refused}
 use Rattle.pool.proofs.Accepted.{fitting_pool}
 use Rattle.pool.proofs.ValueLaws.{fits_size, entries_are}
-use Rattle.tables.proofs.BestCode.{worths_are}
+use Rattle.kep.proofs.Tests.{is_true}
 use Rattle.tables.proofs.BestCall.{pool_refused, exchanges_short, table_short, filled}
 use Rattle.tables.proofs.best.fill_best.Goals as goal
 
@@ -38,13 +38,19 @@ returns-then-table-entries c =
     let told = table_short c.args.pool c.args.exchanges.now c.args.table.now fits (omega arith) (omega arith) in
     record { outcome = told.0; left = told.1 }
 
-pub fill_by-requires : goal.fill_by-requires
-fill_by-requires c =
-    let (fits, entries) = past c.args.pool c.in_default.is c.test-verdict.ensures in
-    record { worths = rw c.vertex_worths-worths.ensures (worths_are c.args.pool fits); size_in_bounds = omega arith; size_in_bounds_2 = omega arith }
+pub new-requires : goal.new-requires
+new-requires c =
+    let (fits, _) = past c.args.pool c.in_default.is c.test-verdict.ensures in
+    is_true (pool_fits c.args.pool) fits
+
+pub fill_best-requires : goal.fill_best-requires
+fill_best-requires c =
+    let (_, entries) = past c.args.pool c.in_default.is c.test-verdict.ensures in
+    rw c.new.ensures.size record { exchanges_long = omega arith; table_long = omega arith }
 
 pub returns : goal.returns
 returns c =
     let (fits, entries) = past c.args.pool c.in_default.is c.test-verdict.ensures in
-    let told = filled c.args.pool c.args.exchanges.now c.args.table.now fits (omega arith) (omega arith) entries c.vertex_worths-worths.ensures c.fill_by.ensures in
+    let left = rw c.new.ensures.size at c.fill_best.ensures in
+    let told = filled c.args.pool c.args.exchanges.now c.args.table.now fits (omega arith) (omega arith) entries c.new.ensures.each left in
     record { outcome = told.0; left = told.1 }

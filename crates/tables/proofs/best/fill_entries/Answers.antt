@@ -14,7 +14,7 @@ loop-s-init c = search rules
 pub overflow_cast-table : goal.overflow_cast-table
 overflow_cast-table c =
     let entry_is : c.best_entry.result ≡ best_offered c.args.offers.now c.loop-s.s = c.best_entry.ensures ∙ next_best_lem c.loop-s.s c.args.offers.now _ c.loop-s.invariant.2 in
-    omega (arith, entry_is, c.requires.by_index c.loop-s.s (omega arith))
+    omega (arith, entry_is, c.requires.small c.loop-s.s (omega arith))
 
 pub loop-s-preserved : goal.loop-s-preserved
 loop-s-preserved c =

@@ -1,4 +1,3 @@
-use borrow.Author.Rules.{rules}
 use mathlib.Core.List.{List}
 use mathlib.Core.Path.{◌≡◌}
 use Prim.Native.Nat.{ℕ, ◌+◌, ◌-◌, ◌*◌, ◌%◌, ◌^◌, ◌<◌}
@@ -12,7 +11,7 @@ use Rattle.kep.specs.inner.BestFilling.{Worths, worth_by}
 use Rattle.kep.proofs.Operations.{one_shl}
 use Rattle.kep.proofs.Tables.{tabulate_store}
 use Rattle.tables.proofs.BestCode.{worth_first, worth_fits, trailing_lt, worth_next}
-use Rattle.tables.proofs.worths.fill_worths.Goals as goal
+use Rattle.tables.proofs.worths.VertexWorths.fill_worths.Goals as goal
 
 -- in the loop s is a set of these vertices, by the number of entries as code works it out
 module _ {size s : ℕ} {each : List ℕ} (worths : Worths size each) (below : s < 1 * 2 ^ size % 2 ^ 64) where
@@ -25,22 +24,21 @@ module _ {size s : ℕ} {each : List ℕ} (worths : Worths size each) (below : s
   stored some table e = worth_next worths some inside table e
 
 pub loop-s-init : goal.loop-s-init
-loop-s-init c = (search rules, pow_pos c.args.size, search rules, worth_first c.requires.worths c.args.table.now (omega (arith, c.requires.size_in_bounds, pow_pos c.args.size)))
+loop-s-init c = worth_first c.args.self.now.small c.args.table.now (omega (arith, pow_pos c.args.self.now.size))
 
-pub bounds-each-v : goal.bounds-each-v
-bounds-each-v c =
-    let w = c.requires.worths in
-    omega (arith, trailing_lt w c.loop-s.invariant.0 (inside w c.loop-s-test.true), w.told)
+pub bounds-self-v : goal.bounds-self-v
+bounds-self-v c =
+    let w = c.args.self.now.small in
+    omega (arith, trailing_lt w c.loop-s.auto.s (inside w c.loop-s-test.true), w.few)
 
 pub overflow_add-table : goal.overflow_add-table
 overflow_add-table c =
-    let w = c.requires.worths in
-    omega (arith, stored w c.loop-s-test.true c.loop-s.invariant.0 _ c.loop-s.invariant.3, worth_fits w c.loop-s.s)
+    let w = c.args.self.now.small in
+    omega (arith, stored w c.loop-s-test.true c.loop-s.auto.s _ c.loop-s.invariant, worth_fits w c.loop-s.s)
 
 pub loop-s-preserved : goal.loop-s-preserved
 loop-s-preserved c =
-    let w = c.requires.worths in
-    let f = worth_by c.args.each.now c.args.size in
-    let below : c.loop-s.s < 2 ^ c.args.size = inside w c.loop-s-test.true in
-    let worth = stored w c.loop-s-test.true c.loop-s.invariant.0 _ c.loop-s.invariant.3 in
-    (search rules, omega arith, search rules, tabulate_store f c.loop-s.s _ (omega (arith, length-set {A = ℕ})) c.loop-s.invariant.3 worth)
+    let f = c.args.self.now in
+    let w = f.small in
+    let below : c.loop-s.s < 2 ^ f.size = inside w c.loop-s-test.true in
+    tabulate_store (worth_by f.each f.size) c.loop-s.s _ (omega (arith, length-set {A = ℕ})) c.loop-s.invariant (stored w c.loop-s-test.true c.loop-s.auto.s _ c.loop-s.invariant)
