@@ -4,6 +4,7 @@ pub mod Each
 pub mod ListLaws
 pub mod Permutations
 pub mod Tables
+pub mod FromFn
 pub mod Cut
 pub mod WholeRecords
 pub mod Rest

@@ -8,7 +8,6 @@ use native.Mathlib.Numerals.{add-one}
 use native.Mathlib.Omega.{arith}
 use lib.ListN.{length, length-append, get_or, take, drop, set}
 use lib.Seq.{append_snoc, drop-cons, take_at, drop_at, set_at, get_or_at, get_or-append-add, get_or-drop}
-use Rattle.std.proofs.lemmas.List.{ext_get_or}
 use Rattle.kep.specs.Lists.{tabulate}
 
 pub length_tabulate : (f : ℕ → ℕ) (k : ℕ) → length (tabulate f k) ≡ k
@@ -44,12 +43,6 @@ get_d_tabulate f (suc k) i rest h =
 -- where nothing follows
 pub get_d_whole : (f : ℕ → ℕ) (k i : ℕ) → i < k → get_or (tabulate f k) i 0 ≡ f i
 get_d_whole f k i h = ap (λ (l : List ℕ). get_or l i 0) (sym (append-nil (tabulate f k))) ∙ get_d_tabulate f k i [] h
-
--- a list of k numbers whose every entry is that of f is the table of f
-pub tabulated : (f : ℕ → ℕ) (k : ℕ) {xs : List ℕ} → length xs ≡ k → ((i : ℕ) → i < k → get_or xs i 0 ≡ f i) → xs ≡ tabulate f k
-tabulated f k {xs} long each =
-    ext_get_or 0 xs (tabulate f k) (long ∙ sym (length_tabulate f k))
-    (λ i h. let l : i < k = omega (arith, long) in each i l ∙ sym (get_d_whole f k i l))
 
 -- entry k of a table that is overwritten from the front, when its turn comes
 pub get_d_behind : (f : ℕ → ℕ) (k : ℕ) (t : List ℕ) → get_or (tabulate f k ++ drop k t) k 0 ≡ get_or t k 0

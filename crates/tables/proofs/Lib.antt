@@ -1,3 +1,2 @@
 pub mod BestCode
 pub mod BestCall
-pub mod FromFn

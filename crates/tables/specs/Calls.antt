@@ -1,19 +1,12 @@
--- What a filling call tells; and of the best table what the call leaves.
+-- What the call that fills the best table tells and leaves.
 use Rattle.std.specs.Prelude.{Bool, not, List, [], ◌∷◌, ℕ, ◌^◌, eqb, leb, length, get_or}
 use Rattle.pool.specs.declared.value.Pool.{Pool}
 use Rattle.kep.specs.Lists.{written_to}
 use Rattle.kep.specs.Sets.{worth_of}
-use Rattle.pool.specs.Refusals.{number_of, Outcome, accepted, refused, tested, left_by}
+use Rattle.pool.specs.Refusals.{Outcome, accepted, tested, left_by}
 use Rattle.pool.specs.Value.{graph_of, weeks_in, pool_fits}
-use Rattle.tables.specs.declared.filled.Filled.{Filled}
-use Rattle.tables.specs.declared.filled.Filled.TheVariants as filled
 use Rattle.kep.specs.Table.{member_weeks}
 use Rattle.kep.specs.computed.Table.{best}
-
--- what the answer of a filling call stands for
-abbrev pub filled_outcome : Filled → Outcome ℕ
-filled_outcome (filled.Entries k) = accepted k
-filled_outcome (filled.Refused r) = refused (number_of r.cause) r.at
 
 -- ---- the best table: for every set the greatest members × 65,536 + weeks that disjoint marked sets inside it can hold
 

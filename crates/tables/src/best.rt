@@ -1,38 +1,30 @@
 // Filling the best table.
 ghost use Rattle.std.specs.Prelude.{◌≡◌, ℕ, ◌^◌, ◌≤◌, ◌<◌, length, get_or};
 ghost use Rattle.kep.specs.Lists.{written_to};
-ghost use Rattle.tables.specs.Calls.{filled_outcome, marked, best_outcome, best_left};
+ghost use Rattle.pool.specs.Refusals.{outcome};
+ghost use Rattle.tables.specs.Calls.{marked, best_outcome, best_left};
 ghost use Rattle.kep.specs.computed.Table.{best};
 ghost use Rattle.kep.specs.inner.BestFilling.{worth_by, offer, best_offered, next_best};
 
-use crate::filled::Filled;
 use crate::worths::VertexWorths;
-use pool::{Cause, Pool, Refusal, Verdict};
+use pool::{Cause, Pool, Refusal};
 
-// Fills the best table from the marks of a lent exchange table, whatever that holds: 6, 8, 9, or the entries written.
-pub fn fill_best(pool: Pool, exchanges: &[u16], table: &mut [u32]) -> Filled
-    ensures outcome { filled_outcome result ≡ best_outcome pool exchanges.now table.old }
+// Fills the best table from the marks of a lent exchange table, whatever that holds: 6, 8, 9, or the entries written, 2 to the power of
+// the number of places.
+pub fn fill_best(pool: Pool, exchanges: &[u16], table: &mut [u32]) -> Result<usize, Refusal>
+    ensures outcome { outcome result ≡ best_outcome pool exchanges.now table.old }
     ensures left { table.new ≡ best_left pool exchanges.now table.old }
 {
-    let verdict = pool.test();
-    if let Verdict::Refused(refusal) = verdict {
-        return Filled::Refused(refusal);
-    }
+    pool.test()?;
     let entries = 1usize << pool.size;
     if exchanges.len() < entries {
-        return Filled::Refused(Refusal {
-            cause: Cause::ExchangeTable,
-            at: 0,
-        });
+        return Err(Cause::ExchangeTable.into());
     }
     if table.len() < entries {
-        return Filled::Refused(Refusal {
-            cause: Cause::BestTable,
-            at: 0,
-        });
+        return Err(Cause::BestTable.into());
     }
     VertexWorths::new(pool).fill_best(exchanges, table);
-    Filled::Entries(entries)
+    Ok(entries)
 }
 
 impl VertexWorths {

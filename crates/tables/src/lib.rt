@@ -1,11 +1,9 @@
 // Layer two of document 01: set tables, but for filling the exchange table. The best table holds the most members, and
-// then weeks, that disjoint marked sets can hold; and what a filling call answers.
+// then weeks, that disjoint marked sets can hold.
 #![tactic(auto)]
 
 mod best;
-mod filled;
 mod worths;
 
 pub use best::fill_best;
-pub use filled::Filled;
 pub use worths::MEMBER;

@@ -1,6 +1,6 @@
 use Rattle.std.proofs.Common.{rules}
 use Rattle.tables.specs.Calls.{worth_in}
-use Rattle.tables.proofs.FromFn.{from_fn_tabulated}
+use Rattle.kep.proofs.FromFn.{from_fn_tabulated}
 use Rattle.tables.proofs.worths.vertex_worths.Goals as goal
 
 pub returns : goal.returns
