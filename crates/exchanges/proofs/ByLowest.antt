@@ -2,7 +2,7 @@
 -- vertex.
 use mathlib.Core.Bool.{Bool, true, false}
 use mathlib.Core.List.{List}
-use mathlib.Core.Logic.{◌≢◌, ◌⊎◌, inl, inr}
+use mathlib.Core.Logic.{◌⊎◌, inl, inr}
 use Rattle.std.specs.Prelude.{Option, Some, None}
 use mathlib.Core.Path.{◌≡◌, ap, ap₂, sym, refl, ◌∙◌, subst}
 use Prim.Native.Nat.{ℕ, suc, ◌+◌, ◌-◌, ◌*◌, ◌/◌, ◌%◌, ◌^◌, ◌≤◌, ◌<◌}
@@ -26,8 +26,11 @@ use Rattle.kep.proofs.LowestBit.{remainder_lowest, lowest_remainder, remainder_m
 use Rattle.kep.specs.computed.Table.{entry}
 use Rattle.kep.specs.inner.Filling.{ends}
 use Rattle.exchanges.specs.inner.Changed.{Changed}
-use Rattle.exchanges.specs.inner.ByLowest.{Begins, Closes, Allowed, Next, Held, Known, ends_within, closing_at, kept_of, limit_at}
-use Rattle.exchanges.proofs.Changed.{changed_none, changed_store, changed_over}
+use Rattle.exchanges.specs.inner.ByLowest.{Begins, Closes, Allowed, Next, Held, Known, entry_of, ends_within, closing_at, kept_of, limit_at}
+use Rattle.exchanges.proofs.Changed.{changed_none, changed_store, changed_over, changed_all}
+use Rattle.exchanges.specs.declared.filling.Filling.{Filling}
+use Rattle.pool.specs.Value.{graph_of}
+use Rattle.kep.specs.Lists.{written_to}
 use Rattle.kep.proofs.Ends.{ends_alone, ends_none}
 use Rattle.kep.proofs.EntryMeaning.{entry_empty, entry_altruist}
 use Rattle.exchanges.proofs.Keeping.{lowest_of, ones_alone, chain_entry}
@@ -113,7 +116,7 @@ module _ {l cap s : ℕ} (b : Begins l s) (fits : ones s ≤ cap) where
       rest = omega (arith, begins_le b)
 
 -- the first, if the limit allows any
-pub first_set : {l cap n set : ℕ} → ((cap < 2) × (set ≡ n)) ⊎ ((2 ≤ cap) × (set ≡ 2 ^ l + 2 ^ suc l))
+pub first_set : {l cap n set : ℕ} → ((cap ≡ 1) × (set ≡ n)) ⊎ ((2 ≤ cap) × (set ≡ 2 ^ l + 2 ^ suc l))
     → (set < n → Allowed l cap set) × ((i : ℕ) → 2 ^ l < i → i < set → Begins l i → cap < ones i)
 first_set {l} (inl (few, e)) = (λ h. absurd (omega arith), λ i m k b. omega (arith, ones_begun b, ones_some (i - 2 ^ l) (omega arith)))
 first_set {l} (inr (two, e)) = rw e (
@@ -150,23 +153,23 @@ pub record Alone (g : Graph) (l n cap : ℕ) (d : List ℕ) : Type 0 where
   pub none : (i : ℕ) → i < n → Begins l i → 2 ^ l < i → get_or d i 0 ≡ 0
 
 -- the vertex alone is put in
-module _ (g : Graph) (l n cap : ℕ) (d : List ℕ) (h : l < n) (x : ℕ) where
-  pub alone_put : 2 ^ n ≤ length d → Held false g l (2 ^ n) d → ((cap ≡ 0) × (x ≡ 0)) ⊎ ((cap ≢ 0) × (x ≡ 2 ^ l)) → Alone g l (2 ^ n) cap (set d (2 ^ l) x)
-  alone_put room bare came = record {
-    one = get_or-set_same d (2 ^ l) x 0 (omega (arith, pow-lt h)) ∙ value came;
-    none = λ i small b more. get_or-set_other d (2 ^ l) i x 0 (λ q. omega arith) ∙ bare.each i small b;
+module _ (g : Graph) (l n cap : ℕ) (d : List ℕ) (h : l < n) where
+  pub alone_put : 2 ^ n ≤ length d → Held false g l (2 ^ n) d → 0 < cap → Alone g l (2 ^ n) cap (set d (2 ^ l) (2 ^ l))
+  alone_put room bare some = record {
+    one = get_or-set_same d (2 ^ l) (2 ^ l) 0 (omega (arith, pow-lt h)) ∙ sym (within g cap (2 ^ l) (omega (arith, ones_alone l)) ∙ ends_alone g l);
+    none = λ i small b more. get_or-set_other d (2 ^ l) i (2 ^ l) 0 (λ q. omega arith) ∙ bare.each i small b;
   }
-    where
-      value : ((cap ≡ 0) × (x ≡ 0)) ⊎ ((cap ≢ 0) × (x ≡ 2 ^ l)) → x ≡ ends_within g cap (2 ^ l)
-      value (inl (z, e)) = e ∙ sym (beyond g cap (2 ^ l) (omega (arith, ones_alone l)))
-      value (inr (ne, e)) = e ∙ sym (within g cap (2 ^ l) (omega (arith, ones_alone l)) ∙ ends_alone g l)
 
-  pub put_changed : {t : List ℕ} {f : ℕ → ℕ} → Changed (Begins l) (2 ^ n) f (set d (2 ^ l) x) t → Changed (Begins l) (2 ^ n) f d t
+  pub put_changed : {t : List ℕ} {f : ℕ → ℕ} → Changed (Begins l) (2 ^ n) f (set d (2 ^ l) (2 ^ l)) t → Changed (Begins l) (2 ^ n) f d t
   put_changed c = record {
-    same_length = c.same_length ∙ length-set d (2 ^ l) x;
+    same_length = c.same_length ∙ length-set d (2 ^ l) (2 ^ l);
     done = c.done;
-    kept = λ i m. c.kept i m ∙ get_or-set_other d (2 ^ l) i x 0 (λ q. m (rw q (pow-lt h)) (rw q (begins_alone l)));
+    kept = λ i m. c.kept i m ∙ get_or-set_other d (2 ^ l) i (2 ^ l) 0 (λ q. m (rw q (pow-lt h)) (rw q (begins_alone l)));
   }
+
+-- where the limit allows none
+pub begun_none : (g : Graph) (l n : ℕ) {d : List ℕ} → Held false g l n d → Changed (Begins l) n (ends_within g 0) d d
+begun_none g l n held = changed_none n (λ s small b. held.each s small b ∙ sym (beyond g 0 s (ones_some s (omega (arith, begins_le b, pow_pos l)))))
 
 module _ (g : Graph) (l n cap : ℕ) {d : List ℕ} (room : 2 ^ n ≤ length d) (alone : Alone g l (2 ^ n) cap d) where
   abbrev Filled : ℕ → List ℕ → Type 0
@@ -259,39 +262,45 @@ chains_entered g wf lc lp l n h altruist {d} {t} room c = record {
 abbrev pub Before : ℕ → ℕ → Type 0
 Before k s = (0 < s) × (lowest s < k)
 
-module _ (g : Graph) (lc lp n : ℕ) (filled : Bool) {d t : List ℕ} (begun : Changed (λ i. i ≡ i) n (λ s. counted filled (ends g s)) d t) where
-  pub before_none : Changed (Before 0) n (entry g lc lp) t t
-  before_none = changed_none n (λ i b h. absurd (omega arith))
+-- the table t, begun from d
+module _ (f : Filling) (filled : Bool) {d t : List ℕ} (begun : Changed (λ i. i ≡ i) (2 ^ f.pool.size) (λ s. counted filled (ends (graph_of f.pool) s)) d t) where
+  abbrev Entries : (ℕ → Type 0) → List ℕ → List ℕ → Type 0
+  Entries P u v = Changed P (2 ^ f.pool.size) (entry_of f.pool f.limits) u v
 
-  module _ {u : List ℕ} {l : ℕ} (c : Changed (Before l) n (entry g lc lp) t u) where
-    pub still_held : Held filled g l n u
+  pub before_none : Entries (Before 0) t t
+  before_none = changed_none (2 ^ f.pool.size) (λ i b h. absurd (omega arith))
+
+  module _ {u : List ℕ} {l : ℕ} (c : Entries (Before l) t u) where
+    pub still_held : Held filled (graph_of f.pool) l (2 ^ f.pool.size) u
     still_held = record { each = λ s small b. c.kept s (λ _ h. omega (arith, lowest_of b)) ∙ begun.done s small refl }
 
-    pub before_more : {v : List ℕ} → Changed (Begins l) n (entry g lc lp) u v → Changed (Before (l + 1)) n (entry g lc lp) t v
+    pub before_more : {v : List ℕ} → Entries (Begins l) u v → Entries (Before (l + 1)) t v
     before_more {v} e = record {
       same_length = e.same_length ∙ c.same_length;
       done = λ s small h. go s small h (dec_lt (lowest s) l);
       kept = λ s m. e.kept s (λ small b. m small (omega (arith, begins_le b, pow_pos l), omega (arith, lowest_of b))) ∙ c.kept s (λ small h. m small (h.0, omega (arith, h.1)));
     }
       where
-        go : (s : ℕ) → s < n → Before (l + 1) s → Dec (lowest s < l) → get_or v s 0 ≡ entry g lc lp s
+        go : (s : ℕ) → s < 2 ^ f.pool.size → Before (l + 1) s → Dec (lowest s < l) → get_or v s 0 ≡ entry_of f.pool f.limits s
         go s small h (yes less) = e.kept s (λ _ b. omega (arith, lowest_of b)) ∙ c.done s small (h.0, less)
         go s small h (no nl) =
             let low : lowest s ≡ l = omega (arith, h.1) in
             e.done s small (record { remainder = lowest_remainder (rw low at (lowest_is s h.0)) })
 
-  -- after the last
-  pub before_all : {u : List ℕ} (k : ℕ) → n ≡ 2 ^ k → Changed (Before k) n (entry g lc lp) t u → Changed (λ i. i ≡ i) n (entry g lc lp) d u
-  before_all {u} k e c = record {
-    same_length = c.same_length ∙ begun.same_length;
-    done = λ s small _. go s small (eq-zero-or-pos s);
-    kept = λ s m. c.kept s (λ small _. m small refl) ∙ begun.kept s m;
-  }
-    where
-      none : (b : Bool) → counted b (ends g 0) ≡ 0
-      none true = ends_none g
-      none false = refl
+    -- after the last
+    pub before_all : l ≡ f.pool.size → 2 ^ f.pool.size ≤ length d → u ≡ written_to (entry_of f.pool f.limits) (2 ^ f.pool.size) d
+    before_all last room =
+        let all : Entries (λ i. i ≡ i) d u = record {
+          same_length = c.same_length ∙ begun.same_length;
+          done = λ s small _. go s small (eq-zero-or-pos s);
+          kept = λ s m. c.kept s (λ small _. m small refl) ∙ begun.kept s m;
+        } in
+        changed_all (entry_of f.pool f.limits) (2 ^ f.pool.size) d all room
+      where
+        none : (b : Bool) → counted b (ends (graph_of f.pool) 0) ≡ 0
+        none true = ends_none (graph_of f.pool)
+        none false = refl
 
-      go : (s : ℕ) → s < n → (s ≡ 0) ⊎ (0 < s) → get_or u s 0 ≡ entry g lc lp s
-      go s small (inr p) = c.done s small (p, has_below k s (lowest s) (omega arith) (lowest_is s p).is_in)
-      go s small (inl z) = c.kept s (λ _ h. omega (arith, h.0)) ∙ begun.done s small refl ∙ rw z (none filled ∙ sym (entry_empty g lc lp))
+        go : (s : ℕ) → s < 2 ^ f.pool.size → (s ≡ 0) ⊎ (0 < s) → get_or u s 0 ≡ entry_of f.pool f.limits s
+        go s small (inr p) = c.done s small (p, rw last (has_below f.pool.size s (lowest s) small (lowest_is s p).is_in))
+        go s small (inl z) = c.kept s (λ _ h. omega (arith, h.0)) ∙ begun.done s small refl ∙ rw z (none filled ∙ sym (entry_empty (graph_of f.pool) f.limits.cycle f.limits.chain))

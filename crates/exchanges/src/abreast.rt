@@ -20,7 +20,7 @@ impl Filling {
     {
         let sets = 1usize << self.pool.size;
         for base in (0..sets).step_by(8) {
-            let eight = self.common_ends(base, &*table);
+            let eight = self.common_ends(base, table);
             let found = self.all_ends(base, eight);
             store_eight(base, found, table);
         }
@@ -44,7 +44,7 @@ impl Filling {
             let next = (left - 1) & left;
             let bit = left - next;
             let from = base - bit;
-            let v = usize::trailing_zeros(left) as usize;
+            let v = left.trailing_zeros() as usize;
             add_open(from, self.givers[v], bit as u16, table, &mut eight);
             left = next;
         }

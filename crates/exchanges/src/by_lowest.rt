@@ -126,11 +126,14 @@ impl Filling {
     {
         let first = 1usize << low;
         let sets = 1usize << self.pool.size;
+        if most == 0 {
+            return;
+        }
         // A vertex alone is a path.
-        table[first] = if most == 0 { 0 } else { first as u16 };
-        let mut set = if most < 2 { sets } else { 3 * first };
+        table[first] = first as u16;
+        let mut set = if most == 1 { sets } else { 3 * first };
         while set < sets {
-            table[set] = self.path_ends(set, first, &*table);
+            table[set] = self.path_ends(set, first, table);
             set = next_allowed(set, first, most);
         }
     }
@@ -151,7 +154,7 @@ fn next_allowed(set: usize, first: usize, most: u32) -> usize
     requires small { set < 2 ^ 14 }
     ensures { (l : ℕ) → first ≡ 2 ^ l → Allowed l most set → Next l most set result }
 {
-    if usize::count_ones(set) < most {
+    if set.count_ones() < most {
         return set + 2 * first;
     }
     let others = set - first;
@@ -178,7 +181,7 @@ fn closing_within(set: usize, most: Option<u32>, closing: u16) -> u16
     ensures { result ≡ closing_at most closing set }
 {
     match most {
-        Some(most) if most < usize::count_ones(set) => 0,
+        Some(most) if most < set.count_ones() => 0,
         _ => closing,
     }
 }

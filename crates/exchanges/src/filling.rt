@@ -6,7 +6,8 @@ ghost use Rattle.pool.specs.Value.{graph_of, pool_fits};
 
 use pool::{Limits, Pool, all_givers};
 
-// A pool that passes its test, the limits, and the givers of every vertex, worked out once.
+// A pool that passes its test, the limits, and the givers of every vertex, worked out once. The table is lent beside it: were it a
+// field, every contract would have to say that the others stay, in place of that the table has room.
 #[derive(Drop)]
 pub(crate) struct Filling {
     pub pool: Pool,

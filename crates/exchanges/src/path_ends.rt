@@ -32,7 +32,7 @@ impl Filling {
             let next = (left - 1) & left;
             let bit = left - next;
             let before = set - bit;
-            let v = usize::trailing_zeros(left) as usize;
+            let v = left.trailing_zeros() as usize;
             let met = table[before] & self.givers[v];
             ends |= if met == 0 { 0 } else { bit };
             left = next;

@@ -59,6 +59,7 @@ impl VertexWorths {
 }
 
 // What each set offers: its worth where it is marked, else 0. Every try looks one up, so they are worked out once.
+#[tactic(auto, unfolding(kep::specs::Lists::tabulate))]
 fn fill_offers(entries: usize, exchanges: &[u16], worths: &[u32], offers: &mut [u32])
     requires exchanges_long { entries ≤ length exchanges.now }
     requires worths_long { entries ≤ length worths.now }
@@ -66,12 +67,12 @@ fn fill_offers(entries: usize, exchanges: &[u16], worths: &[u32], offers: &mut [
     ensures { offers.new ≡ written_to (offer (λ t. get_or worths.now t 0) (marked exchanges.now)) entries offers.old }
 {
     for t in 0..entries {
-        let worth = worths[t];
-        offers[t] = if exchanges[t] == 0 { 0 } else { worth };
+        offers[t] = if exchanges[t] == 0 { 0 } else { worths[t] };
     }
 }
 
 // Every entry, upward: each from those before it.
+#[tactic(auto, unfolding(kep::specs::Lists::tabulate))]
 fn fill_entries(entries: usize, offers: &[u32], table: &mut [u32])
     requires offers_long { entries ≤ length offers.now }
     requires table_long { entries ≤ length table.old }
@@ -95,9 +96,7 @@ fn best_entry(s: usize, offers: &[u32], table: &[u32]) -> usize
     while t != 0 {
         let rest = s - t;
         let sum = offers[t] as usize + table[rest] as usize;
-        if found < sum {
-            found = sum;
-        }
+        found = found.max(sum);
         t = (t - 1) & s;
     }
     found

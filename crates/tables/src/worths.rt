@@ -20,7 +20,7 @@ pub(crate) struct VertexWorths {
 }
 
 impl VertexWorths {
-    // Those of a pool: of a member 65,536 and its weeks; of a house nothing.
+    // Those of a pool that passes its test.
     pub(crate) fn new(pool: Pool) -> VertexWorths
         requires { IsTrue (pool_fits pool) }
         ensures size { result.size ≡ pool.size }
@@ -39,18 +39,20 @@ impl VertexWorths {
     {
         table[0] = 0;
         for s in 1..1usize << self.size {
-            let v = usize::trailing_zeros(s) as usize;
+            let v = s.trailing_zeros() as usize;
             table[s] = table[(s - 1) & s] + self.each[v];
         }
     }
 }
 
+// The worth of every vertex of a pool.
 fn vertex_worths(pool: Pool) -> [u32; 14]
     ensures { result ≡ tabulate (worth_in pool) 14 }
 {
     std::array::from_fn(|v| vertex_worth(pool, v))
 }
 
+// Of a member 65,536 and its weeks; of a house, and where there is no vertex, nothing.
 fn vertex_worth(pool: Pool, v: usize) -> u32
     requires { v < 14 }
     ensures { result ≡ worth_in pool v }

@@ -4,7 +4,6 @@ use Rattle.kep.proofs.Down.{step_below}
 use Rattle.kep.specs.inner.BestFilling.{next_best}
 use Rattle.kep.proofs.BestFilling.{trying_start, trying_next, trying_done}
 use Rattle.tables.proofs.BestCode.{sum_fits}
-use Rattle.tables.proofs.best.best_entry.Goals.{else-found-sum, then-found-sum}
 use Rattle.tables.proofs.best.best_entry.Goals as goal
 
 pub loop-t-init : goal.loop-t-init
@@ -26,11 +25,7 @@ pub loop-t-smaller : goal.loop-t-smaller
 loop-t-smaller c = step_below _ _ (omega arith)
 
 pub loop-t-preserved : goal.loop-t-preserved
-loop-t-preserved c =
-    elim c.if-found-sum.branch [
-      | then-found-sum w ↦ trying_next (omega arith) c.loop-t.invariant (omega arith)
-      | else-found-sum w ↦ trying_next (omega arith) c.loop-t.invariant (omega arith)
-    ]
+loop-t-preserved c = trying_next (omega arith) c.loop-t.invariant c.max-found.ensures
 
 pub returns : goal.returns
 unfolding next_best

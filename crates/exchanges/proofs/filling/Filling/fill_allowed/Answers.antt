@@ -1,9 +1,11 @@
 use mathlib.Core.Bool.{false}
 use mathlib.Core.List.{List}
-use mathlib.Core.Logic.{◌≢◌, ◌⊎◌, inl, inr}
+use mathlib.Core.Logic.{inl, inr}
 use mathlib.Core.Path.{◌≡◌, ap, sym, ◌∙◌}
 use Prim.Native.Nat.{ℕ, ◌*◌, ◌%◌, ◌≤◌, ◌<◌, ◌^◌}
+use native.Mathlib.Nat.{pos_of_ne-zero}
 use native.Mathlib.Omega.{arith}
+use Rattle.exchanges.specs.declared.filling.Filling.{Filling}
 use lib.ListN.{length, length-set, set}
 use lib.Pow.{pow-lt}
 use Rattle.kep.specs.Graph.{Graph}
@@ -14,34 +16,32 @@ use Rattle.exchanges.specs.inner.ByLowest.{Begins, Allowed, Held, ends_within}
 use Rattle.exchanges.specs.inner.Changed.{Changed}
 use Rattle.exchanges.proofs.Changed.{changed_end}
 use Rattle.exchanges.proofs.Keeping.{lowest_of}
-use Rattle.exchanges.proofs.ByLowest.{Numbers, numbers_are, first_set, next_allowed, Alone, alone_put, put_changed, begun_start, begun_known, begun_more}
-use Rattle.exchanges.proofs.filling.Filling.fill_allowed.Goals.{else-most-eq0, else-most-lt2, then-most-eq0, then-most-lt2}
+use Rattle.exchanges.proofs.ByLowest.{begun_none, Numbers, numbers_are, first_set, next_allowed, Alone, alone_put, put_changed, begun_start, begun_known, begun_more}
+use Rattle.exchanges.proofs.filling.Filling.fill_allowed.Goals.{else-most-eq1, then-most-eq1}
 use Rattle.exchanges.proofs.filling.Filling.fill_allowed.Goals as goal
 
 -- the vertex alone
-record Begun (g : Graph) (l n cap x : ℕ) (d : List ℕ) : Type 0 where
+record Begun (g : Graph) (l n cap : ℕ) (d : List ℕ) : Type 0 where
   pub numbers : Numbers l n
-  pub room : 2 ^ n ≤ length (set d (2 ^ l) x)
-  pub alone : Alone g l (2 ^ n) cap (set d (2 ^ l) x)
+  pub room : 2 ^ n ≤ length (set d (2 ^ l) (2 ^ l))
+  pub alone : Alone g l (2 ^ n) cap (set d (2 ^ l) (2 ^ l))
 
-begun : {g : Graph} {l n : ℕ} (cap x : ℕ) {d : List ℕ} → l < n → n ≤ 14 → 2 ^ n ≤ length d → Held false g l (2 ^ n) d
-    → ((cap ≡ 0) × (x ≡ 0)) ⊎ ((cap ≢ 0) × (x ≡ 1 * 2 ^ l % 2 ^ 64)) → Begun g l n cap x d
-begun {g} {l} {n} cap x {d} h few room held came =
-    let numbers = numbers_are h few in
-    record {
-      numbers = numbers;
-      room = simp length-set room;
-      alone = alone_put g l n cap d h x room held (elim came [ inl w ↦ inl w | inr w ↦ inr (w.0, w.1 ∙ numbers.first) ]);
-    }
+begun : (f : Filling) {l cap : ℕ} {d : List ℕ} → l < f.pool.size → 2 ^ f.pool.size ≤ length d → Held false (graph_of f.pool) l (2 ^ f.pool.size) d → (cap ≡ 0 → ⊥)
+    → Begun (graph_of f.pool) l f.pool.size cap d
+begun f {l} {cap} {d} h room held some = record {
+  numbers = numbers_are h (few f);
+  room = simp length-set room;
+  alone = alone_put (graph_of f.pool) l f.pool.size cap d h room held (pos_of_ne-zero some);
+}
 
 -- a set in its turn
-record Turn (g : Graph) (l n cap x : ℕ) (d : List ℕ) (s : ℕ) (t : List ℕ) : Type 0 where
+record Turn (g : Graph) (l n cap : ℕ) (d : List ℕ) (s : ℕ) (t : List ℕ) : Type 0 where
   pub small : s < 2 ^ n
   pub allowed : Allowed l cap s
-  pub filled : Changed (λ i. (i < 2 ^ n) × Begins l i) s (ends_within g cap) (set d (2 ^ l) x) t
+  pub filled : Changed (λ i. (i < 2 ^ n) × Begins l i) s (ends_within g cap) (set d (2 ^ l) (2 ^ l)) t
 
-turn : {g : Graph} {l n cap x : ℕ} {d : List ℕ} {s : ℕ} {t : List ℕ} → Begun g l n cap x d → s < 1 * 2 ^ n % 2 ^ 64
-    → (s < 2 ^ n → Allowed l cap s) × Changed (λ i. (i < 2 ^ n) × Begins l i) s (ends_within g cap) (set d (1 * 2 ^ l % 2 ^ 64) x) t → Turn g l n cap x d s t
+turn : {g : Graph} {l n cap : ℕ} {d : List ℕ} {s : ℕ} {t : List ℕ} → Begun g l n cap d → s < 1 * 2 ^ n % 2 ^ 64
+    → (s < 2 ^ n → Allowed l cap s) × Changed (λ i. (i < 2 ^ n) × Begins l i) s (ends_within g cap) (set d (1 * 2 ^ l % 2 ^ 64) (1 * 2 ^ l % 2 ^ 64)) t → Turn g l n cap d s t
 turn {n = n} {s = s} b less (allowed, filled) =
     let small : s < 2 ^ n = omega (arith, b.numbers.sets) in
     record { small = small; allowed = allowed small; filled = rw b.numbers.first at filled }
@@ -49,23 +49,29 @@ turn {n = n} {s = s} b less (allowed, filled) =
 pub bounds-table-first : goal.bounds-table-first
 bounds-table-first c = omega (arith, pow-lt c.requires.in_pool)
 
+pub returns-then-most-eq0 : goal.returns-then-most-eq0
+returns-then-most-eq0 c =
+    let f = c.args.self.now in
+    rw c.if-most-eq0.true (begun_none (graph_of f.pool) c.args.low (2 ^ f.pool.size) c.requires.held)
+
 pub loop-set-init : goal.loop-set-init
 loop-set-init c =
     let a = c.args in
     let f = a.self.now in
-    let b = begun a.most c.if-most-eq0.table c.requires.in_pool (few f) c.requires.room c.requires.held
-    (elim c.if-most-eq0.branch [ then-most-eq0 w ↦ inl (w.if-most-eq0.true, w.table-is) | else-most-eq0 w ↦ inr (w.if-most-eq0.false, w.table-is) ]) in
+    let b = begun f c.requires.in_pool c.requires.room c.requires.held c.if-most-eq0.false in
     let n = b.numbers in
-    let (allowed, many) = first_set {l = a.low} {cap = a.most} {n = 2 ^ f.pool.size} {set = c.if-most-lt2.set}
-    (elim c.if-most-lt2.branch [ then-most-lt2 w ↦ inl (w.if-most-lt2.true, w.set-is ∙ n.sets) | else-most-lt2 w ↦ inr (w.if-most-lt2.false, w.set-is ∙ omega (arith, n)) ]) in
-    (allowed, rw n.first (begun_start (graph_of f.pool) a.low f.pool.size a.most b.room b.alone c.if-most-lt2.set many))
+    let (allowed, many) = first_set {l = a.low} {cap = a.most} {n = 2 ^ f.pool.size} {set = c.if-most-eq1.set}
+    (elim c.if-most-eq1.branch [
+      | then-most-eq1 w ↦ inl (w.if-most-eq1.true, w.set-is ∙ n.sets)
+      | else-most-eq1 w ↦ inr (omega (arith, w.if-most-eq1.false, c.if-most-eq0.false), w.set-is ∙ omega (arith, n))
+    ]) in
+    (allowed, rw n.first (begun_start (graph_of f.pool) a.low f.pool.size a.most b.room b.alone c.if-most-eq1.set many))
 
 pub path_ends-requires : goal.path_ends-requires
 path_ends-requires c =
     let a = c.args in
     let f = a.self.now in
-    let b = begun a.most c.if-most-eq0.table c.requires.in_pool (few f) c.requires.room c.requires.held
-    (elim c.if-most-eq0.branch [ then-most-eq0 w ↦ inl (w.if-most-eq0.true, w.table-is) | else-most-eq0 w ↦ inr (w.if-most-eq0.false, w.table-is) ]) in
+    let b = begun f c.requires.in_pool c.requires.room c.requires.held c.if-most-eq0.false in
     let s = turn b c.loop-set-test.true c.loop-set.invariant in
     let first = b.numbers.first in
     record {
@@ -83,8 +89,7 @@ pub loop-set-preserved : goal.loop-set-preserved
 loop-set-preserved c =
     let a = c.args in
     let f = a.self.now in
-    let b = begun a.most c.if-most-eq0.table c.requires.in_pool (few f) c.requires.room c.requires.held
-    (elim c.if-most-eq0.branch [ then-most-eq0 w ↦ inl (w.if-most-eq0.true, w.table-is) | else-most-eq0 w ↦ inr (w.if-most-eq0.false, w.table-is) ]) in
+    let b = begun f c.requires.in_pool c.requires.room c.requires.held c.if-most-eq0.false in
     let s = turn b c.loop-set-test.true c.loop-set.invariant in
     let next = c.next_allowed-set.ensures a.low b.numbers.first s.allowed in (
       λ _. next_allowed s.allowed next,
@@ -96,5 +101,5 @@ returns c =
     let a = c.args in
     let f = a.self.now in
     let n = numbers_are c.requires.in_pool (few f) in
-    put_changed (graph_of f.pool) a.low f.pool.size a.most a.table.now c.requires.in_pool c.if-most-eq0.table
+    put_changed (graph_of f.pool) a.low f.pool.size a.most a.table.now c.requires.in_pool
     (changed_end (2 ^ f.pool.size) (rw n.first at c.loop-set.invariant.1) (omega (arith, n.sets, c.loop-set-test.false)))

@@ -8,15 +8,14 @@ use lib.ListN.{get_or, length-set}
 use lib.Pow.{pow_pos}
 use Rattle.kep.specs.Lists.{written_to}
 use Rattle.kep.specs.inner.BestFilling.{Worths, worth_by}
-use Rattle.kep.proofs.Operations.{one_shl}
 use Rattle.kep.proofs.Tables.{tabulate_store}
-use Rattle.tables.proofs.BestCode.{worth_first, worth_fits, trailing_lt, worth_next}
+use Rattle.tables.proofs.BestCode.{sets_are, worth_first, worth_fits, trailing_lt, worth_next}
 use Rattle.tables.proofs.worths.VertexWorths.fill_worths.Goals as goal
 
 -- in the loop s is a set of these vertices, by the number of entries as code works it out
 module _ {size s : ℕ} {each : List ℕ} (worths : Worths size each) (below : s < 1 * 2 ^ size % 2 ^ 64) where
   inside : s < 2 ^ size
-  inside = omega (arith, one_shl 64 size (omega (arith, worths.few)))
+  inside = omega (arith, sets_are worths)
 
   -- what is stored is its worth
   stored : 0 < s → (table : List ℕ) {filled : List ℕ} → filled ≡ written_to (worth_by each size) s table
