@@ -6,7 +6,8 @@ use mathlib.Core.Logic.{◌≢◌}
 use mathlib.Core.Path.{◌≡◌, refl, sym, ap, ap₂, ◌∙◌}
 use Prim.Native.Nat.{ℕ, suc, ◌+◌, ◌-◌, ◌*◌, ◌^◌, ◌≤◌, ◌<◌}
 use native.Mathlib.Omega.{arith}
-use borrow.Rule.Slice.PartMut.{mid_of, put_mid, put_same}
+use borrow.Rule.Slice.PartMut.{put_mid}
+use Rattle.std.proofs.Common.{Option, Some, None}
 use lib.Dec.{T, ltb}
 use lib.ListN.{length, take, drop, length-append}
 use lib.Pow.{pow_pos}
@@ -24,7 +25,9 @@ use Rattle.kep.specs.Exchange.{head_of}
 use Rattle.kep.specs.Plan.{insert, in_order, record_of, records_of, record_form, FitRecords}
 use Rattle.kep.specs.computed.Answer.{answer}
 use Rattle.kep.specs.inner.Paths.{Field}
+use Rattle.clearing.specs.declared.step.Taken.{Taken}
 use Rattle.clearing.specs.inner.Taking.{Stepped, nothing, first, Clean}
+use Rattle.clearing.proofs.Seek.{some_none, some_same}
 use Rattle.kep.proofs.Each.{each_map}
 use Rattle.kep.proofs.SetLaws.{IsLowest, lowest_is, lowest_below_lem, has_below}
 use Rattle.kep.proofs.Parts.{part_le, part_trans, in_rest}
@@ -64,12 +67,9 @@ records_length g (also {x = x} {xs = p} h hs) = length-append (record_of g x) (r
 
 -- what is clean on a set is clean on its parts
 clean_part : {U U' : ℕ} {dead : List ℕ} → Part U' U → Clean U dead → Clean U' dead
-clean_part i c = record { long = c.long; none = λ S k. c.none S (part_trans k i) }
+clean_part i c = record { none = λ S k. c.none S (part_trans k i) }
 
--- the part of the plan buffer for the next record, and the buffer with it
-abbrev pub next_in : List ℕ → ℕ → List ℕ
-next_in plan records = mid_of (16 * records) (16 * records + 16 - 16 * records) plan
-
+-- the plan buffer with the next record
 abbrev pub with_next : List ℕ → ℕ → List ℕ → List ℕ
 with_next plan records bytes = put_mid (16 * records) (16 * records + 16 - 16 * records) plan bytes
 
@@ -106,14 +106,13 @@ module _ (g : Graph) (lc lp : ℕ) (fit : FitRecords g lc lp) where
           let low = lowest_is free (best_nonempty g lc lp w gain) in
           omega (arith, m.room (lowest free) low.is_in, has_below g.size free (lowest free) m.inside low.is_in)
 
-      -- the record lent is the next; left as it was, the plan is as it was
-      made_skip : {bytes : List ℕ} → 0 < free → NoneGood g lc lp w free (lowest free) → bytes ≡ next_in plan records
-          → Made g lc lp w plan₀ (with_next plan records bytes) (free - 2 ^ lowest free) records
-      made_skip some none_good e = record {
+      -- the lowest vertex is left out
+      made_skip : 0 < free → NoneGood g lc lp w free (lowest free) → Made g lc lp w plan₀ plan (free - 2 ^ lowest free) records
+      made_skip some none_good = record {
         made = m.made;
         leads = leads_skip g lc lp w m.made (lowest_is free some) none_good m.leads;
         long = m.long;
-        written = ap (with_next plan records) e ∙ put_same (16 * records) (16 * records + 16 - 16 * records) plan ∙ m.written;
+        written = m.written;
         inside = omega (arith, m.inside);
         room = λ u h. m.room u ((in_without free (lowest free) u (lowest_is free some).is_in).0 h).0;
       }
@@ -182,21 +181,21 @@ module _ (g : Graph) (lc lp : ℕ) (fit : FitRecords g lc lp) where
         pub made_plan : plan ≡ record_form g (answer w g lc lp) ++ drop (length (record_form g (answer w g lc lp))) plan₀
         made_plan = m.written ∙ ap₂ (λ (r : List ℕ) (k : ℕ). r ++ drop k plan₀) form_is (sym m.long ∙ ap length form_is)
 
-    -- ---- by what a step tells, keeps and writes: what was clean beside the lowest vertex is clean on what is free next
+    -- ---- by what a step tells and keeps: what was clean beside the lowest vertex is clean on what is free next
 
-    module _ {f : Field} {plan₀ plan bytes : List ℕ} {records told : ℕ}
+    module _ {f : Field} {plan₀ plan : List ℕ} {records : ℕ} {told : Option Taken}
         (means : Means g lc lp w f)
         (m : Made g lc lp w plan₀ plan f.free records)
         (positive : 0 < best_of w g lc lp f.free)
-        (taken : Stepped g f (next_in plan records) told bytes)
+        (step : Stepped g f told)
       where
         low : IsLowest f.free (lowest f.free)
         low = lowest_is f.free (best_nonempty g lc lp w positive)
 
-        pub step_none : {v next : ℕ} {dead : List ℕ} → told ≡ 0 → f.free < 2 ^ 16 → v ≡ lowest_below 16 f.free → next ≡ without_vertex 16 f.free v → Clean (f.free - 2 ^ lowest f.free) dead
-            → (next < f.free) × (Made g lc lp w plan₀ (with_next plan records bytes) next records × Clean next dead)
+        pub step_none : {v next : ℕ} {dead : List ℕ} → told ≡ None → f.free < 2 ^ 16 → v ≡ lowest_below 16 f.free → next ≡ without_vertex 16 f.free v → Clean (f.free - 2 ^ lowest f.free) dead
+            → (next < f.free) × (Made g lc lp w plan₀ plan next records × Clean next dead)
         unfolding set_of
-        step_none {v} {next} {dead} z wide found e clean = go taken
+        step_none {v} {next} {dead} z wide found e clean = go step
           where
             some : 0 < f.free
             some = best_nonempty g lc lp w positive
@@ -204,15 +203,16 @@ module _ (g : Graph) (lc lp : ℕ) (fit : FitRecords g lc lp) where
             without : next ≡ f.free - 2 ^ lowest f.free
             without = e ∙ rw (found ∙ lowest_below_lem 16 f.free some wide) (without_old 16 f.free wide (lowest f.free) low.is_in)
 
-            go : Stepped g f (next_in plan records) told bytes → (next < f.free) × (Made g lc lp w plan₀ (with_next plan records bytes) next records × Clean next dead)
-            go (nothing t b cannot) =
-                rw without (omega (arith, bit_le f.free (lowest f.free) low.is_in, pow_pos (lowest f.free)), (made_skip m some (none_good g lc lp w means low cannot) b, clean))
-            go (first c way t b) = absurd (omega (arith, pow_pos (lowest f.free)))
+            go : Stepped g f told → (next < f.free) × (Made g lc lp w plan₀ plan next records × Clean next dead)
+            go (nothing t cannot) =
+                rw without (omega (arith, bit_le f.free (lowest f.free) low.is_in, pow_pos (lowest f.free)), (made_skip m some (none_good g lc lp w means low cannot), clean))
+            go (first c way t) = absurd (some_none t z)
 
-        pub step_one : {dead : List ℕ} → told ≢ 0 → Clean (f.free - 2 ^ lowest f.free) dead
-            → (told ≤ f.free) × (f.free - told < f.free) × (Made g lc lp w plan₀ (with_next plan records bytes) (f.free - told) (records + 1) × Clean (f.free - told) dead)
+        pub step_one : {taken : Taken} {dead : List ℕ} → told ≡ Some taken → Clean (f.free - 2 ^ lowest f.free) dead
+            → (taken.set.0 ≤ f.free) × (f.free - taken.set.0 < f.free)
+            × (Made g lc lp w plan₀ (with_next plan records taken.bytes) (f.free - taken.set.0) (records + 1) × Clean (f.free - taken.set.0) dead)
         unfolding set_of
-        step_one {dead} ne clean = go taken
+        step_one {taken} {dead} one clean = go step
           where
             -- the exchange takes the lowest vertex with it
             less : (ys : List ℕ) → Part (set_of (lowest f.free ∷ ys)) f.free → T (distinct (lowest f.free ∷ ys)) → Part (f.free - set_of (lowest f.free ∷ ys)) (f.free - 2 ^ lowest f.free)
@@ -222,12 +222,13 @@ module _ (g : Graph) (lc lp : ℕ) (fit : FitRecords g lc lp) where
                   (in_without f.free (lowest f.free) x low.is_in).1 (was, λ e. new ((has_set_of (lowest f.free ∷ ys) once x).1 (Memᴰ.head e)));
             }
 
-            go : Stepped g f (next_in plan records) told bytes
-                → (told ≤ f.free) × (f.free - told < f.free) × (Made g lc lp w plan₀ (with_next plan records bytes) (f.free - told) (records + 1) × Clean (f.free - told) dead)
-            go (nothing t b cannot) = absurd (ne t)
-            go (first {ys = ys} c way t b) =
+            go : Stepped g f told
+                → (taken.set.0 ≤ f.free) × (f.free - taken.set.0 < f.free)
+                × (Made g lc lp w plan₀ (with_next plan records taken.bytes) (f.free - taken.set.0) (records + 1) × Clean (f.free - taken.set.0) dead)
+            go (nothing t cannot) = absurd (some_none one t)
+            go (first {ys = ys} c way t) =
                 let taken_first = leftmost_first_good g lc lp w means low c way in
-                rw t (part_le taken_first.good.inside, omega (arith, part_le taken_first.good.inside, pow_pos (lowest f.free)), (made_take m positive taken_first b, clean_part (less ys taken_first.good.inside (exchange_distinct g taken_first.good.told.0)) clean))
+                rw (some_same (sym one ∙ t)) (part_le taken_first.good.inside, omega (arith, part_le taken_first.good.inside, pow_pos (lowest f.free)), (made_take m positive taken_first refl, clean_part (less ys taken_first.good.inside (exchange_distinct g taken_first.good.told.0)) clean))
 
 -- a record more is within a plan buffer that has one for each vertex
 pub part_end : {size records k k₀ : ℕ} → records < size → 16 * size ≤ k₀ → k ≡ k₀ → 16 * records + 16 ≤ k

@@ -1,16 +1,17 @@
 -- The record of an exchange as code writes it: the vertices in front, the part behind them filled up, and the last two bytes.
 use mathlib.Core.Bool.{Bool, true, false}
 use mathlib.Core.List.{List, [], ◌∷◌, ◌++◌, append_assoc}
-use mathlib.Core.Path.{◌≡◌, refl, sym, ap, ◌∙◌}
-use Prim.Native.Nat.{ℕ, ◌+◌, ◌-◌, ◌≤◌, ◌<◌}
+use mathlib.Core.Path.{◌≡◌, refl, sym, ap, ap₂, ◌∙◌}
+use Prim.Native.Nat.{ℕ, suc, ◌+◌, ◌-◌, ◌≤◌, ◌<◌}
 use native.Mathlib.Nat.{lt_of_le_of_lt}
 use native.Mathlib.Omega.{arith}
-use borrow.Rule.Slice.PartMut.{mid_of, post_of, put_mid, mid_len, Post-is}
+use borrow.Rule.Slice.PartMut.{mid_of, put_mid}
 use lib.Bits.{bit_and, and_le_r}
 use lib.Count.{ones}
 use lib.Dec.{T}
-use lib.ListN.{length, get_or, take, set, replicate, length-append}
-use lib.Seq.{take_at, set_at, append_snoc}
+use Rattle.std.proofs.lemmas.List.{take-replicate, drop-replicate, replicate-append-replicate}
+use lib.ListN.{length, take, drop, set, replicate, length-append}
+use lib.Seq.{set_at, append_snoc}
 use borrow.Author.Tests.{lt-ltb, le-ltb}
 use Rattle.pool.specs.declared.value.Pool.{Pool}
 use Rattle.kep.specs.Graph.{Graph, is_altruist, is_member}
@@ -24,7 +25,7 @@ use Rattle.pool.proofs.ValueLaws.{fits_size}
 use Rattle.kep.proofs.Worth.{worth_and}
 use Rattle.kep.proofs.SetLoops.{where_reach}
 use Rattle.kep.proofs.ExchangeFacts.{member_between}
-use Rattle.kep.proofs.Bytes.{padded, padded_length, last_two}
+use Rattle.kep.proofs.Bytes.{padded, padded_length}
 
 -- ---- its last two bytes
 
@@ -56,45 +57,37 @@ module _ (g : Graph) (x : ℕ) (xs : List ℕ) where
 
 -- ---- the whole record
 
--- the vertices stand in front, and the part behind them, up to byte 14, is filled
-pub record Front (xs bytes part : List ℕ) (len : ℕ) : Type 0 where
-  pub room : length bytes ≡ 16
-  pub count : len ≡ length xs
-  pub short : length xs ≤ 14
-  pub behind : List ℕ
-  pub vertices : bytes ≡ xs ++ behind
-  pub filled : part ≡ replicate (length (mid_of len (14 - len) bytes)) 255
+-- what is filled behind n vertices that follow the first, up to the vertex k and from it on
+filled_behind : (n k filler : ℕ) → n ≤ k → k ≤ 14 → n < 14
+    → drop n (take k (replicate 15 filler)) ++ drop k (replicate 15 filler) ≡ replicate (14 - suc n) filler ++ replicate 2 filler
+filled_behind n k filler inside few room =
+    ap₂ ◌++◌ (ap (drop n) (take-replicate k 15 filler (omega arith)) ∙ drop-replicate n k filler) (drop-replicate k 15 filler)
+    ∙ replicate-append-replicate (k - n) (15 - k) filler
+    ∙ ap (λ (m : ℕ). replicate m filler) (omega arith)
+    ∙ sym (replicate-append-replicate (14 - suc n) 2 filler)
 
-module _ {xs bytes part : List ℕ} {len : ℕ} (f : Front xs bytes part len) where
-  pub put_back : put_mid len (14 - len) bytes part ≡ padded 14 255 xs ++ get_or bytes 14 0 ∷ get_or bytes 15 0 ∷ []
-  unfolding padded
-  put_back =
-      let front : take len bytes ≡ xs = ap (take len) f.vertices ∙ take_at xs f.behind len (sym f.count) in
-      let fill : part ≡ replicate (14 - length xs) 255 = f.filled ∙ ap (λ (k : ℕ). replicate k 255) (mid_len len 14 bytes (omega (arith, f.room)) ∙ ap (λ (k : ℕ). 14 - k) f.count) in
-      let last : post_of len (14 - len) bytes ≡ get_or bytes 14 0 ∷ get_or bytes 15 0 ∷ [] = Post-is len 14 bytes (omega (arith, f.count, f.short)) ∙ last_two bytes f.room in
-      rw (front, fill, last) (sym (append_assoc xs (replicate (14 - length xs) 255) (get_or bytes 14 0 ∷ get_or bytes 15 0 ∷ [])))
+-- all bytes but the first are filled, and the vertices that follow it written from the second on
+pub vertices_written : (x : ℕ) (ys : List ℕ) {k : ℕ} → length ys ≤ k → k ≤ 14 → length (x ∷ ys) ≤ 14
+    → put_mid 1 k (x ∷ replicate 15 255) (ys ++ drop (length ys) (mid_of 1 k (x ∷ replicate 15 255))) ≡ padded 14 255 (x ∷ ys) ++ 255 ∷ 255 ∷ []
+unfolding padded
+vertices_written x ys {k} inside few room =
+    ap (λ (l : List ℕ). x ∷ l)
+    (append_assoc ys (drop (length ys) (take k (replicate 15 255))) (drop k (replicate 15 255))
+    ∙ ap (λ (l : List ℕ). ys ++ l) (filled_behind (length ys) k 255 inside few (omega arith))
+    ∙ sym (append_assoc ys (replicate (14 - suc (length ys)) 255) (255 ∷ 255 ∷ [])))
 
+module _ (g : Graph) (xs : List ℕ) (short : length xs ≤ 14) where
   -- the last two bytes are set
-  pub record_written : (g : Graph) {kind members : ℕ} → kind ≡ kind_of g xs → members ≡ served g xs
-      → set (set (put_mid len (14 - len) bytes part) 14 kind) 15 members ≡ record_of g xs
+  pub record_written : {kind members : ℕ} → kind ≡ kind_of g xs → members ≡ served g xs
+      → set (set (padded 14 255 xs ++ 255 ∷ 255 ∷ []) 14 kind) 15 members ≡ record_of g xs
   unfolding record_of padded
-  record_written g {kind} {members} k m =
+  record_written {kind} {members} k m =
       let body = padded 14 255 xs in
-      let long = padded_length 14 255 xs f.short in
-      let first = set_at body (get_or bytes 14 0) (get_or bytes 15 0 ∷ []) kind 14 long in
+      let long = padded_length 14 255 xs short in
+      let first = set_at body 255 (255 ∷ []) kind 14 long in
       let longer : length (body ++ kind ∷ []) ≡ 15 = length-append body (kind ∷ []) ∙ ap (λ (n : ℕ). n + 1) long in
-      let second = set_at (body ++ kind ∷ []) (get_or bytes 15 0) [] members 15 longer in
-      ap (λ (l : List ℕ). set (set l 14 kind) 15 members) put_back
-      ∙ ap (λ (l : List ℕ). set l 15 members) (first ∙ sym (append_snoc body kind (get_or bytes 15 0 ∷ [])))
+      let second = set_at (body ++ kind ∷ []) 255 [] members 15 longer in
+      ap (λ (l : List ℕ). set l 15 members) (first ∙ sym (append_snoc body kind (255 ∷ [])))
       ∙ second
       ∙ append_snoc body kind (members ∷ [])
       ∙ rw (k, m)
-
-  -- its first byte is the first vertex, by which the kind goes
-  pub kind_by_front : (g : Graph) {kind : ℕ} → 1 ≤ length xs → kind ≡ kind_of g (get_or (put_mid len (14 - len) bytes part) 0 0 ∷ []) → kind ≡ kind_of g xs
-  unfolding padded
-  kind_by_front g {kind} some k = go xs some (rw put_back at k)
-    where
-      go : (ys : List ℕ) → 1 ≤ length ys → kind ≡ kind_of g (get_or (padded 14 255 ys ++ get_or bytes 14 0 ∷ get_or bytes 15 0 ∷ []) 0 0 ∷ []) → kind ≡ kind_of g ys
-      go [] l e = absurd (omega arith)
-      go (y ∷ ys) l e = e ∙ kind_alone g y ys

@@ -8,6 +8,7 @@ use native.Mathlib.Decide.{ℕ_discrete}
 use native.Mathlib.Nat.{pos_of_ne-zero}
 use native.Mathlib.Omega.{arith}
 use lib.Bits.{bit_and, bit_or}
+use Rattle.std.proofs.Common.{Option, Some, None, if◌then◌else◌}
 use lib.Dec.{T, eqb, eqb→eq}
 use lib.ListN.{length, get_or, set, drop_of_length-le}
 use lib.Pow.{pow_pos}
@@ -21,9 +22,15 @@ use Rattle.kep.proofs.SetLaws.{IsLowest, nonempty, lowest_is, lowest_below_lem, 
 use Rattle.kep.proofs.Parts.{part_le, part_refl, part_trans, has_and, in_rest, and_part}
 use Rattle.kep.proofs.Operations.{with_cases, with_or, with_new, without_old}
 use Rattle.kep.proofs.Vertices.{in_with, with_part, with_without, in_without, bit_le}
-use Rattle.clearing.specs.declared.seeking.Step.{Step}
+use Rattle.sets.specs.declared.vertex_set.VertexSet.{VertexSet}
 use Rattle.kep.specs.inner.Paths.{Field, Next, Completes, Completable, stop, go_on}
-use Rattle.clearing.specs.inner.Seeking.{field_of, ends_of, open_at, DeadEnds, KeptBut, kept_dead, Entering, Sought, nowhere, found}
+use Rattle.clearing.specs.inner.Seeking.{Ways, field_of, ends_of, open_at, DeadEnds, KeptBut, kept_dead, Entering, Sought, nowhere, found}
+
+pub some_none : {A : Type 0} {o : Option A} {a : A} → o ≡ Some a → o ≡ None → ⊥
+some_none s n = cc
+
+pub some_same : {A : Type 0} {a b : A} → ◌≡◌ {A = Option A} (Some a) (Some b) → a ≡ b
+some_same e = cc
 
 -- ---- where a path may end, as code tests it
 
@@ -62,44 +69,44 @@ pub record Open (f : Field) (path u left more : ℕ) : Type 0 where
 
 -- ---- what is lent
 
-module _ {gives exchanges best dead : List ℕ} {s : Step} {path u more : ℕ} (e : Entering gives s exchanges best dead path u more) where
-  pub path_le : path ≤ s.free.0
+module _ {s : Ways} {dead : List ℕ} {path u more : ℕ} (wide : s.free < 2 ^ 14) (e : Entering s dead path u more) where
+  pub path_le : path ≤ s.free
   path_le = part_le e.part
 
   wide_path : path < 2 ^ 16
-  wide_path = omega (arith, path_le, e.lent.wide)
+  wide_path = omega (arith, path_le, wide)
 
   came_from : without_vertex 16 path u ≡ path - 2 ^ u
   came_from = without_old 16 path wide_path u e.last
 
   pub last_lt : u < 14
-  last_lt = has_below 14 path u (omega (arith, path_le, e.lent.wide)) e.last
+  last_lt = has_below 14 path u (omega (arith, path_le, wide)) e.last
 
   -- ---- the vertices to try
 
   abbrev F : Field
-  F = field_of gives s exchanges best
+  F = field_of s
 
   -- all that u gives to and that is free beside the path
   abbrev ways : ℕ
-  ways = bit_and (get_or gives u 0) (s.free.0 - path)
+  ways = bit_and (get_or s.gives u 0) (s.free - path)
 
-  pub opens : {left : ℕ} → left ≡ open_at gives s dead path u more → Open F path u left more
+  pub opens : {left : ℕ} → left ≡ open_at s dead path u more → Open F path u left more
   unfolding open_at
-  opens {left} q = rw q (go (eqb more 0) (eqb (bit_and s.goal.0 (s.free.0 - path)) 0) refl refl)
+  opens {left} q = rw q (go (eqb more 0) (eqb (bit_and s.goal (s.free - path)) 0) refl refl)
     where
       none_open : ((v : ℕ) → Next F path u v → Completable F (2 ^ v + path) v → ⊥) → Open F path u 0 more
       none_open n = record { nexts = λ v h. absurd (not_in_empty v h); tried = λ v m h c. n v m c }
 
       -- where the path goes on, a vertex of the goal is left
-      met : (v : ℕ) → Next F path u v → (c : Completable F (2 ^ v + path) v) → T (has (bit_and s.goal.0 (s.free.0 - path)) (last_of v c.0))
+      met : (v : ℕ) → Next F path u v → (c : Completable F (2 ^ v + path) v) → T (has (bit_and s.goal (s.free - path)) (last_of v c.0))
       met v n c =
           let end = last_of v c.0 in
-          rw (has_and s.goal.0 (s.free.0 - path) end)
-          ((and_iff (has s.goal.0 end) (has (s.free.0 - path) end)).1 (e.aims v c.0 (n, c.1), (in_rest e.part end).1 (last_fresh F c.0 path u v (n, c.1))))
+          rw (has_and s.goal (s.free - path) end)
+          ((and_iff (has s.goal end) (has (s.free - path) end)).1 (e.aims v c.0 (n, c.1), (in_rest e.part end).1 (last_fresh F c.0 path u v (n, c.1))))
 
-      in_ways : (v : ℕ) → T (has ways v) ↔ (T (has (get_or gives u 0) v) × T (has (s.free.0 - path) v))
-      in_ways v = rw (has_and (get_or gives u 0) (s.free.0 - path) v) (and_iff (has (get_or gives u 0) v) (has (s.free.0 - path) v))
+      in_ways : (v : ℕ) → T (has ways v) ↔ (T (has (get_or s.gives u 0) v) × T (has (s.free - path) v))
+      in_ways v = rw (has_and (get_or s.gives u 0) (s.free - path) v) (and_iff (has (get_or s.gives u 0) v) (has (s.free - path) v))
 
       untried : (v : ℕ) → T (has (ways - bit_and (get_or dead path 0) ways) v) ↔ (T (has ways v) × (T (has (bit_and (get_or dead path 0) ways) v) → ⊥))
       untried v = in_rest (and_part (get_or dead path 0) ways) v
@@ -107,12 +114,12 @@ module _ {gives exchanges best dead : List ℕ} {s : Step} {path u more : ℕ} (
       failed : (v : ℕ) → T (has (bit_and (get_or dead path 0) ways) v) → T (has (get_or dead path 0) v)
       failed v t = ((and_iff (has (get_or dead path 0) v) (has ways v)).0 (rw has_and at t)).0
 
-      next : (v : ℕ) → T (has (get_or gives u 0) v) × T (has (s.free.0 - path) v) → Next F path u v
+      next : (v : ℕ) → T (has (get_or s.gives u 0) v) × T (has (s.free - path) v) → Next F path u v
       next v (arc, rest) = let (free, new) = (in_rest e.part v).0 rest in record { arc = arc; free = free; new = new }
 
-      go : (full lost : Bool) → eqb more 0 ≡ full → eqb (bit_and s.goal.0 (s.free.0 - path)) 0 ≡ lost → Open F path u (counted (not full && not lost) (ways - bit_and (get_or dead path 0) ways)) more
+      go : (full lost : Bool) → eqb more 0 ≡ full → eqb (bit_and s.goal (s.free - path)) 0 ≡ lost → Open F path u (counted (not full && not lost) (ways - bit_and (get_or dead path 0) ways)) more
       go true lost z _ = none_open (λ v n c. omega (arith, eqb→eq more 0 (from_true z), e.short (v ∷ c.0) (n, c.1)))
-      go false true _ z = none_open (λ v n c. not_in_empty (last_of v c.0) (rw (eqb→eq (bit_and s.goal.0 (s.free.0 - path)) 0 (from_true z)) at (met v n c)))
+      go false true _ z = none_open (λ v n c. not_in_empty (last_of v c.0) (rw (eqb→eq (bit_and s.goal (s.free - path)) 0 (from_true z)) at (met v n c)))
       go false false z _ = record {
         nexts = λ v h. (next v ((in_ways v).0 ((untried v).0 h).0), pos_of_ne-zero (λ k. from_false z (eq→eqb more 0 k)));
         tried = λ v n h c. h ((untried v).1 ((in_ways v).1 (n.arc, (in_rest e.part v).1 (n.free, n.new)), λ t. e.failed.sound path v e.part (nonempty path u e.last) (failed v t) c));
@@ -124,12 +131,12 @@ module _ {gives exchanges best dead : List ℕ} {s : Step} {path u more : ℕ} (
     no_next : (v : ℕ) → Next F path u v → Completable F (2 ^ v + path) v → ⊥
     no_next v n c = o.tried v n (λ h. not_in_empty v (rw none at h)) c
 
-    not_here : (T (has (ends_of s exchanges best path) u) → ⊥) → Completable F path u → ⊥
+    not_here : (T (has (ends_of s path) u) → ⊥) → Completable F path u → ⊥
     not_here n ([], c) = n c
     not_here n (v ∷ ys, c) = no_next v c.0 (ys, c.1)
 
-    one_more : (T (has (ends_of s exchanges best path) u) → ⊥) → DeadEnds F (kept_dead false dead path u)
-    one_more n = record { sound = λ p x i l h c. go p x i l h c (ℕ_discrete p before) }
+    one_more : length dead ≡ 16384 → (T (has (ends_of s path) u) → ⊥) → DeadEnds F (kept_dead false dead path u)
+    one_more long n = record { sound = λ p x i l h c. go p x i l h c (ℕ_discrete p before) }
       where
         before : ℕ
         before = without_vertex 16 path u
@@ -138,33 +145,33 @@ module _ {gives exchanges best dead : List ℕ} {s : Step} {path u more : ℕ} (
         more_dead = with_vertex 16 (get_or dead before 0) u
 
         here : get_or (set dead before more_dead) before 0 ≡ more_dead
-        here = get_or-set_same dead before more_dead 0 (omega (arith, came_from, path_le, e.dead_long))
+        here = get_or-set_same dead before more_dead 0 (omega (arith, came_from, path_le, wide, long))
 
-        at_before : (x : ℕ) → Part before s.free.0 → 0 < before → T (has more_dead x) → Completable F (2 ^ x + before) x → ⊥
+        at_before : (x : ℕ) → Part before s.free → 0 < before → T (has more_dead x) → Completable F (2 ^ x + before) x → ⊥
         at_before x i l h c =
             ⊎_elim
             (λ k. e.failed.sound before x i l k c)
             (λ k. let whole : 2 ^ x + before ≡ path = ap (λ (y : ℕ). 2 ^ y + before) k ∙ omega (arith, came_from, with_without path u e.last) in not_here n (rw k at (rw whole at c)))
             (with_cases 16 (get_or dead before 0) u x h)
 
-        go : (p x : ℕ) → Part p s.free.0 → 0 < p → T (has (get_or (set dead before more_dead) p 0) x) → Completable F (2 ^ x + p) x → Dec (p ≡ before) → ⊥
+        go : (p x : ℕ) → Part p s.free → 0 < p → T (has (get_or (set dead before more_dead) p 0) x) → Completable F (2 ^ x + p) x → Dec (p ≡ before) → ⊥
         go p x i l h c (yes q) = at_before x (rw q at i) (rw q at l) (rw (q, here) at h) (rw q at c)
         go p x i l h c (no ne) = e.failed.sound p x i l (rw (get_or-set_other dead before p more_dead 0 ne) at h) c
 
     -- what is told and kept is right
-    module _ {bytes bytes₀ dead₀ dead' : List ℕ} {told : ℕ} (same : bytes ≡ bytes₀) (untouched : (S : ℕ) → (Part path S → ⊥) → get_or dead S 0 ≡ get_or dead₀ S 0) where
-      pub ended : told ≡ counted (has (ends_of s exchanges best path) u) path → dead' ≡ kept_dead (has (ends_of s exchanges best path) u) dead path u
+    module _ {bytes bytes₀ dead₀ dead' : List ℕ} {at : VertexSet} {told : Option VertexSet} (at_path : at.0 ≡ path) (long : length dead ≡ 16384) (same : bytes ≡ bytes₀) (untouched : (S : ℕ) → (Part path S → ⊥) → get_or dead S 0 ≡ get_or dead₀ S 0) where
+      pub ended : told ≡ (if has (ends_of s path) u then Some at else None) → dead' ≡ kept_dead (has (ends_of s path) u) dead path u
           → DeadEnds F dead' × (KeptBut path u dead₀ dead' × Sought F path u bytes₀ told bytes)
       unfolding set_of
-      ended = go (has (ends_of s exchanges best path) u) refl
+      ended = go (has (ends_of s path) u) refl
         where
-          go : (b : Bool) → has (ends_of s exchanges best path) u ≡ b → told ≡ counted b path → dead' ≡ kept_dead b dead path u
+          go : (b : Bool) → has (ends_of s path) u ≡ b → told ≡ (if b then Some at else None) → dead' ≡ kept_dead b dead path u
               → DeadEnds F dead' × (KeptBut path u dead₀ dead' × Sought F path u bytes₀ told bytes)
-          go true q t d = (rw d e.failed, (record { same = λ S n _. rw d (untouched S n) }, found {ys = []} (rw q tt) (stop no_next) (t ∙ omega arith) same))
+          go true q t d = (rw d e.failed, (record { same = λ S n _. rw d (untouched S n) }, found {ys = []} (rw q tt) (stop no_next) (t ∙ ap (λ (p : ℕ). Some (record { 0 = p })) (at_path ∙ omega arith)) same))
           go false q t d =
-              let no : T (has (ends_of s exchanges best path) u) → ⊥ = λ h. rw q at h in
+              let no : T (has (ends_of s path) u) → ⊥ = λ h. rw q at h in
               let before = without_vertex 16 path u in (
-                rw d (one_more no),
+                rw d (one_more long no),
                 (
                   record { same = λ S n ne. rw d (get_or-set_other dead before S (with_vertex 16 (get_or dead before 0) u) 0 (λ q. ne (q ∙ came_from)) ∙ untouched S n) },
                   nowhere t same (not_here no),
@@ -172,22 +179,23 @@ module _ {gives exchanges best dead : List ℕ} {s : Step} {path u more : ℕ} (
               )
 
 -- ---- the loop: some vertices are left to try, and nothing is written yet
-pub record Trying (gives : List ℕ) (s : Step) (exchanges best dead₀ bytes₀ : List ℕ) (path u : ℕ) (dead bytes : List ℕ) (left : ℕ) : Type 0 where
-  pub same_dead : length dead ≡ length dead₀
+pub record Trying (s : Ways) (dead₀ bytes₀ : List ℕ) (path u : ℕ) (dead bytes : List ℕ) (left : ℕ) : Type 0 where
+  pub long : length dead ≡ 16384
   pub untouched : (S : ℕ) → (Part path S → ⊥) → get_or dead S 0 ≡ get_or dead₀ S 0
   pub same_bytes : bytes ≡ bytes₀
   pub fits : left < 2 ^ 16
-  pub entering : Entering gives s exchanges best dead path u (length bytes)
-  pub opens : Open (field_of gives s exchanges best) path u left (length bytes)
+  pub entering : Entering s dead path u (length bytes)
+  pub opens : Open (field_of s) path u left (length bytes)
 
 -- v, the lowest of them, is tried
-module _ {gives exchanges best dead₀ bytes₀ dead bytes : List ℕ} {s : Step} {path u left v : ℕ}
-    (t : Trying gives s exchanges best dead₀ bytes₀ path u dead bytes left)
+module _ {s : Ways} {dead₀ bytes₀ dead bytes : List ℕ} {path u left v : ℕ}
+    (wide : s.free < 2 ^ 14)
+    (t : Trying s dead₀ bytes₀ path u dead bytes left)
     (some : left ≢ 0)
     (low : v ≡ lowest_below 16 left)
   where
     abbrev G : Field
-    G = field_of gives s exchanges best
+    G = field_of s
 
     is_low : IsLowest left v
     is_low = rw (low ∙ lowest_below_lem 16 left (pos_of_ne-zero some) t.fits) (lowest_is left (pos_of_ne-zero some))
@@ -199,12 +207,12 @@ module _ {gives exchanges best dead₀ bytes₀ dead bytes : List ℕ} {s : Step
     room = (t.opens.nexts v is_low.is_in).1
 
     pub next_lt : v < 14
-    next_lt = has_below 14 s.free.0 v t.entering.lent.wide next.free
+    next_lt = has_below 14 s.free v wide next.free
 
-    longer_part : Part (2 ^ v + path) s.free.0
+    longer_part : Part (2 ^ v + path) s.free
     longer_part = with_part v t.entering.part next.free next.new
 
-    pub longer_le : 2 ^ v + path ≤ s.free.0
+    pub longer_le : 2 ^ v + path ≤ s.free
     longer_le = part_le longer_part
 
     -- v left out of those left
@@ -218,20 +226,18 @@ module _ {gives exchanges best dead₀ bytes₀ dead bytes : List ℕ} {s : Step
     -- the path with v, as code makes it
     module _ {longer : ℕ} (put : longer ≡ with_vertex 16 path v) where
       longer_is : longer ≡ 2 ^ v + path
-      longer_is = put ∙ with_new 16 path (wide_path t.entering) v (omega (arith, next_lt)) next.new
+      longer_is = put ∙ with_new 16 path (wide_path wide t.entering) v (omega (arith, next_lt)) next.new
 
       -- fewer vertices are free beside it
-      pub deeper_falls : s.free.0 - longer < s.free.0 - path
+      pub deeper_falls : s.free - longer < s.free - path
       deeper_falls = omega (arith, longer_is, longer_le, pow_pos v)
 
       -- the search from v on
-      pub deeper : {more : ℕ} → more ≡ length bytes - 1 → Entering gives s exchanges best dead longer v more
+      pub deeper : {more : ℕ} → more ≡ length bytes - 1 → Entering s dead longer v more
       unfolding last_of
       deeper q =
           rw longer_is
           (record {
-            lent = t.entering.lent;
-            dead_long = t.entering.dead_long;
             part = longer_part;
             last = (in_with path v v next.new).1 (inl refl);
             short = λ ys c. omega (arith, t.entering.short (v ∷ ys) (next, c));
@@ -253,27 +259,27 @@ module _ {gives exchanges best dead₀ bytes₀ dead bytes : List ℕ} {s : Step
       kept_there k = record { same = λ S n _. still_untouched k S n }
 
       -- what it tells and writes
-      module _ {written : List ℕ} {told : ℕ} (rest : Sought G longer v (mid_of 1 (length bytes - 1) bytes) told written) where
+      module _ {written : List ℕ} {told : Option VertexSet} (rest : Sought G longer v (mid_of 1 (length bytes - 1) bytes) told written) where
         -- it finds an exchange
-        pub found_there : told ≢ 0 → Sought G path u bytes₀ told (set (put_mid 1 (length bytes - 1) bytes written) 0 v)
+        pub found_there : {taken : VertexSet} → told ≡ Some taken → Sought G path u bytes₀ told (set (put_mid 1 (length bytes - 1) bytes written) 0 v)
         unfolding set_of
-        found_there ne = rw (← t.same_bytes) (go bytes room (rw longer_is at rest))
+        found_there {taken} one = rw (← t.same_bytes) (go bytes room (rw longer_is at rest))
           where
             lower : (x : ℕ) → x < v → Next G path u x → Completable G (2 ^ x + path) x → ⊥
             lower x l n c = t.opens.tried x n (λ h. omega (arith, is_low.least x h)) c
 
             go : (bytes : List ℕ) → 0 < length bytes → Sought G (2 ^ v + path) v (mid_of 1 (length bytes - 1) bytes) told written → Sought G path u bytes told (set (put_mid 1 (length bytes - 1) bytes written) 0 v)
-            go bytes l (nowhere z w n) = absurd (ne z)
+            go bytes l (nowhere z w n) = absurd (some_none one z)
             go [] l (found c w k b) = absurd (omega arith)
             go (x ∷ bytes) l (found {ys = ys} c w k b) =
                 let whole : suc (length bytes) - 1 ≡ length bytes = omega arith in
-                found {ys = v ∷ ys} (next, c) (go_on next lower w) (k ∙ omega arith)
+                found {ys = v ∷ ys} (next, c) (go_on next lower w) (k ∙ ap (λ (p : ℕ). Some (record { 0 = p })) (omega arith))
                 (ap (λ (l : List ℕ). v ∷ l) (rw (b, whole, take-length bytes, drop_of_length-le bytes {i = length bytes} (omega arith), append-nil)))
 
         -- it finds nothing: the others are left, and nothing is written
-        pub none_there : {dead' : List ℕ} {others : ℕ} → others ≡ without_vertex 16 left v → told ≡ 0 → length dead' ≡ length dead → DeadEnds G dead' → KeptBut longer v dead dead'
-            → Trying gives s exchanges best dead₀ bytes₀ path u dead' (put_mid 1 (length bytes - 1) bytes written) others
-        none_there {dead'} {others} removed z same failed kept = go (rw longer_is at rest)
+        pub none_there : {dead' : List ℕ} {others : ℕ} → others ≡ without_vertex 16 left v → told ≡ None → length dead' ≡ 16384 → DeadEnds G dead' → KeptBut longer v dead dead'
+            → Trying s dead₀ bytes₀ path u dead' (put_mid 1 (length bytes - 1) bytes written) others
+        none_there {dead'} {others} removed z long failed kept = go (rw longer_is at rest)
           where
             still_open : (Completable G (2 ^ v + path) v → ⊥) → Open G path u (left - 2 ^ v) (length bytes)
             still_open vain = record { nexts = λ x h. t.opens.nexts x ((in_without left v x is_low.is_in).0 h).0; tried = λ x n h c. tried x n h c (ℕ_discrete x v) }
@@ -283,18 +289,16 @@ module _ {gives exchanges best dead₀ bytes₀ dead bytes : List ℕ} {s : Step
                 tried x n h c (no ne) = t.opens.tried x n (λ k. h ((in_without left v x is_low.is_in).1 (k, ne))) c
 
             go : Sought G (2 ^ v + path) v (mid_of 1 (length bytes - 1) bytes) told written
-                → Trying gives s exchanges best dead₀ bytes₀ path u dead' (put_mid 1 (length bytes - 1) bytes written) others
-            go (found c w k b) = absurd (omega (arith, pow_pos v))
+                → Trying s dead₀ bytes₀ path u dead' (put_mid 1 (length bytes - 1) bytes written) others
+            go (found c w k b) = absurd (some_none k z)
             go (nowhere _ w vain) =
                 rw (w, put_same 1 (length bytes - 1) bytes, others_are removed)
                 (record {
-                  same_dead = same ∙ t.same_dead;
+                  long = long;
                   untouched = still_untouched kept;
                   same_bytes = t.same_bytes;
                   fits = omega (arith, t.fits);
                   entering = record {
-                    lent = t.entering.lent;
-                    dead_long = omega (arith, t.entering.dead_long);
                     part = t.entering.part;
                     last = t.entering.last;
                     short = t.entering.short;

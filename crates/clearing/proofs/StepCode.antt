@@ -1,45 +1,50 @@
 -- A step of choosing as code makes it: the tables that it reads hold their meaning, so the paths that it searches are those of the
 -- graph; the search begun, and the exchange that it takes.
 use mathlib.Core.Bool.{Bool, true, false}
-use mathlib.Core.List.{List, [], ◌∷◌, ◌++◌, append_assoc}
-use mathlib.Core.Logic.{◌↔◌, ◌≢◌}
+use mathlib.Core.List.{List, [], ◌∷◌, ◌++◌}
+use mathlib.Core.Logic.{◌↔◌}
 use mathlib.Core.Path.{◌≡◌, refl, sym, ap, ◌∙◌}
 use Prim.Native.Nat.{ℕ, zero, suc, ◌+◌, ◌-◌, ◌^◌, ◌≤◌, ◌<◌}
 use native.Mathlib.Omega.{arith}
 use borrow.Author.Tests.{lt-ltb, le-ltb}
-use borrow.Rule.Slice.PartMut.{mid_of, put_mid, put_same, mid_len}
+use borrow.Rule.Slice.PartMut.{mid_of, put_mid, mid_len}
 use lib.Dec.{T, eqb, eqb→eq, ltb, leb, leb→le}
-use lib.ListN.{length, get_or, take, drop, set, replicate, length-take, length-replicate}
-use lib.Pow.{pow_mono, pow_pos}
+use Rattle.std.proofs.Common.{Option, Some, None}
+use lib.ListN.{length, get_or, take, drop, replicate, length-take}
+use lib.ListN.{set as put}
+use lib.Pow.{pow_mono}
 use lib.Seq.{get_or-take}
 use Rattle.pool.specs.declared.value.Pool.{Pool}
 use Rattle.pool.specs.declared.limits.Limits.{Limits}
 use Rattle.kep.specs.Lists.{tabulate}
-use Rattle.kep.specs.Sets.{has, Part, counted, set_of, lowest_below, with_vertex}
+use Rattle.kep.specs.Sets.{has, Part, counted, set_of, lowest_below, with_vertex, worth_of}
 use Rattle.kep.specs.inner.Lowest.{lowest}
 use Rattle.pool.specs.Value.{graph_of}
 use Rattle.kep.specs.Exchange.{last_of}
 use Rattle.kep.specs.Graph.{givers}
 use Rattle.kep.specs.computed.Table.{best_of, entry}
 use Rattle.tables.specs.Calls.{worth_in}
-use Rattle.clearing.specs.declared.seeking.Step.{Step}
-use Rattle.kep.specs.Plan.{record_of}
-use Rattle.kep.specs.inner.Paths.{Field, Completes}
-use Rattle.clearing.specs.inner.Seeking.{field_of, ends_of, KeptBut, Entering, Sought, nowhere, found}
-use Rattle.clearing.specs.inner.Taking.{TablesHold, Choosing, Clean, more_by, goal_by, step_of, pool_field, Stepped, nothing, first, Fronted}
+use Rattle.sets.specs.declared.vertex_set.VertexSet.{VertexSet}
+use Rattle.clearing.specs.declared.step.Taken.{Taken}
+use Rattle.kep.specs.Plan.{record_of, kind_of}
+use Rattle.kep.specs.Table.{member_worth}
+use Rattle.kep.specs.inner.Paths.{Field, Completes, Leftmost}
+use Rattle.clearing.specs.inner.Seeking.{Ways, field_of, ends_of, KeptBut, Entering, Sought, nowhere, found}
+use Rattle.clearing.specs.inner.Taking.{TablesHold, Choosing, Clean, more_by, goal_by, pool_ways, pool_field, Stepped, nothing, first}
 use Rattle.kep.proofs.Each.{each_first}
 use Rattle.kep.proofs.Operations.{with_new}
 use Rattle.kep.proofs.Parts.{part_le, part_trans, rest_part}
 use Rattle.kep.proofs.SetLaws.{IsLowest, lowest_is, lowest_below_lem, has_below, has_full, not_in_empty}
-use Rattle.kep.proofs.SetOf.{set_of_lt}
 use Rattle.kep.proofs.Tables.{length_tabulate, get_d_whole}
 use Rattle.kep.proofs.Tests.{and_iff, eq→eqb}
 use Rattle.pool.proofs.ValueLaws.{fits_size, fits_formed, arc_iff}
 use Rattle.kep.proofs.Vertices.{in_power, in_without, power_part}
 use Rattle.kep.proofs.Ends.{in_givers}
-use Rattle.kep.proofs.ExchangeFacts.{Exchange, cycle, chain, member_between, exchange_distinct, exchange_below}
+use Rattle.kep.proofs.ExchangeFacts.{Exchange, cycle, chain, member_between, exchange_distinct, exchange_below, fits_few, small_fits}
+use Rattle.kep.proofs.Worth.{list_worth}
+use Rattle.clearing.proofs.RecordCode.{vertices_written, record_written, kind_alone}
 use Rattle.kep.proofs.Completion.{MayEnd, Means, good_iff}
-use Rattle.clearing.proofs.Seek.{last_fresh}
+use Rattle.clearing.proofs.Seek.{last_fresh, some_none, some_same}
 
 -- ---- tables that hold their meaning
 
@@ -78,7 +83,7 @@ module _ {p : Pool} {l : Limits} {exchanges best : List ℕ} (hold : TablesHold 
       in_counted true e u = (λ t. (tt, t), λ h. h.1)
       in_counted false e u = (λ t. absurd (not_in_empty u t), λ h. absurd h.0)
 
-      ends : {S : ℕ} (u : ℕ) → Part S free → T (has (ends_of (step_of p free) exchanges best S) u) ↔ MayEnd (graph_of p) l.cycle l.chain (worth_in p) free S u
+      ends : {S : ℕ} (u : ℕ) → Part S free → T (has (ends_of (pool_ways p exchanges best free) S) u) ↔ MayEnd (graph_of p) l.cycle l.chain (worth_in p) free S u
       ends {S} u part =
           let below : S < 2 ^ p.size = omega (arith, part_le part) in
           let reached = get_or best S 0 + get_or best (free - S) 0 in
@@ -92,7 +97,7 @@ module _ {p : Pool} {l : Limits} {exchanges best : List ℕ} (hold : TablesHold 
 
 -- at first nothing has failed
 pub all_clean : {free : ℕ} → Clean free (replicate 16384 0)
-all_clean = record { long = length-replicate {A = ℕ} 16384 0; none = λ S i l. zeros 16384 S }
+all_clean = record { none = λ S i l. zeros 16384 S }
   where
     zeros : (n i : ℕ) → ◌≡◌ {A = ℕ} (get_or (replicate n 0) i 0) 0
     zeros zero i = refl
@@ -107,7 +112,7 @@ module _ {p : Pool} {l : Limits} {gs exchanges best : List ℕ} (c : Choosing p 
     abbrev F : Field
     F = pool_field p exchanges best free
 
-    small : free < 2 ^ 14
+    pub small : free < 2 ^ 14
     small = let all : 2 ^ p.size ≤ 2 ^ 14 = pow_mono (fits_size p c.fits) in omega arith
 
     pub low : v ≡ lowest free
@@ -131,8 +136,8 @@ module _ {p : Pool} {l : Limits} {gs exchanges best : List ℕ} (c : Choosing p 
           by true = both.1
           by false = omega (arith, both.0)
 
-      pub part_long : (bytes : List ℕ) → length bytes ≡ 16 → length (mid_of 1 (1 + more - 1) bytes) ≡ more_by (ltb v p.altruists) l.cycle l.chain
-      part_long bytes long = mid_len 1 (1 + more) bytes (omega (arith, more_le)) ∙ omega arith
+      pub part_long : length (mid_of 1 (1 + more - 1) (v ∷ replicate 15 255)) ≡ more_by (ltb v p.altruists) l.cycle l.chain
+      part_long = mid_len 1 (1 + more) (v ∷ replicate 15 255) (omega (arith, more_le)) ∙ omega arith
 
     -- what completes it is a good exchange
     exchange : (ys : List ℕ) → Completes F (2 ^ lowest free) (lowest free) ys → Exchange (graph_of p) l.cycle l.chain (lowest free ∷ ys)
@@ -147,11 +152,11 @@ module _ {p : Pool} {l : Limits} {gs exchanges best : List ℕ} (c : Choosing p 
         go (chain x) = rw (lt-ltb (lowest free) p.altruists x.altruist) x.short
 
     -- where it goes on, it ends at a vertex of the goal
-    aims : (x : ℕ) (ys : List ℕ) → Completes F (2 ^ lowest free) (lowest free) (x ∷ ys) → T (has (step_of p free).goal.0 (last_of x ys))
+    aims : (x : ℕ) (ys : List ℕ) → Completes F (2 ^ lowest free) (lowest free) (x ∷ ys) → T (has (pool_ways p exchanges best free).goal (last_of x ys))
     unfolding last_of
     aims x ys k = go (exchange (x ∷ ys) k)
       where
-        go : Exchange (graph_of p) l.cycle l.chain (lowest free ∷ x ∷ ys) → T (has (step_of p free).goal.0 (last_of x ys))
+        go : Exchange (graph_of p) l.cycle l.chain (lowest free ∷ x ∷ ys) → T (has (pool_ways p exchanges best free).goal (last_of x ys))
         go (cycle e) =
             rw (le-ltb (lowest free) p.altruists (member_between (graph_of p) (lowest free) (each_first e.members)).0)
             ((in_givers (graph_of p) (fits_formed p c.fits) (lowest free) (last_of x ys)).1 e.closes)
@@ -164,22 +169,19 @@ module _ {p : Pool} {l : Limits} {gs exchanges best : List ℕ} (c : Choosing p 
         (goal_is : goal ≡ goal_by (ltb v p.altruists) (get_or gs v 0))
         (path_is : path ≡ with_vertex 16 0 v)
       where
-        abbrev step : Step
-        step = record { free = record { 0 = free }; goal = record { 0 = goal } }
+        abbrev step : Ways
+        step = record { gives = p.gives; exchanges = exchanges; best = best; free = free; goal = goal }
 
-        step_is : step ≡ step_of p free
+        step_is : step ≡ pool_ways p exchanges best free
         step_is = rw (goal_is, c.givers_are, get_d_whole (givers (graph_of p)) 14 v first_lt, low)
 
         first_bit : path ≡ 2 ^ lowest free
         first_bit = path_is ∙ with_new 16 0 (omega arith) v (omega (arith, first_lt)) (not_in_empty v) ∙ rw low (omega arith)
 
-        pub starts : {more : ℕ} → more ≡ more_by (ltb v p.altruists) l.cycle l.chain → length p.gives ≡ 14
-            → {dead : List ℕ} → Clean free dead → Entering p.gives step exchanges best dead path v more
-        starts e long clean =
+        pub starts : {more : ℕ} → more ≡ more_by (ltb v p.altruists) l.cycle l.chain → {dead : List ℕ} → Clean free dead → Entering step dead path v more
+        starts e clean =
             rw (first_bit, step_is, e, low)
             (record {
-              lent = record { gives_long = long; exchanges_long = omega (arith, exchanges_long c.hold); best_long = omega (arith, best_long c.hold); wide = small };
-              dead_long = omega (arith, clean.long, small);
               part = power_part free (lowest free) is_low.is_in;
               last = (in_power (lowest free) (lowest free)).1 refl;
               short = short;
@@ -188,8 +190,8 @@ module _ {p : Pool} {l : Limits} {gs exchanges best : List ℕ} (c : Choosing p 
             })
 
         -- what it keeps is on sets with the lowest free vertex, so it is clean on the others
-        pub still_clean : {dead dead' : List ℕ} → Clean free dead → length dead' ≡ length dead → KeptBut path v dead dead' → Clean (free - 2 ^ lowest free) dead'
-        still_clean {dead} {dead'} clean same kept = record { long = same ∙ clean.long; none = none }
+        pub still_clean : {dead dead' : List ℕ} → Clean free dead → KeptBut path v dead dead' → Clean (free - 2 ^ lowest free) dead'
+        still_clean {dead} {dead'} clean kept = record { none = none }
           where
             rest : Part (free - 2 ^ lowest free) free
             rest = rest_part (power_part free (lowest free) is_low.is_in)
@@ -206,45 +208,53 @@ module _ {p : Pool} {l : Limits} {gs exchanges best : List ℕ} (c : Choosing p 
 
         -- ---- what it takes
 
-        module _ (k : ℕ) (bytes : List ℕ) {told : ℕ} {written : List ℕ} (sought : Sought (field_of p.gives step exchanges best) path v (mid_of 1 k bytes) told written) where
-          sought_low : Sought F (2 ^ lowest free) (lowest free) (mid_of 1 k bytes) told written
+        module _ {filled : List ℕ} {told : Option VertexSet} {written : List ℕ} (sought : Sought (field_of step) path v filled told written) where
+          sought_low : Sought F (2 ^ lowest free) (lowest free) filled told written
           sought_low = rw (first_bit, step_is, low) at sought
 
-          pub none_taken : told ≡ 0 → Stepped (graph_of p) F bytes told (put_mid 1 k bytes written)
+          pub none_taken : told ≡ None → Stepped (graph_of p) F None
           none_taken z = go sought_low
             where
-              go : Sought F (2 ^ lowest free) (lowest free) (mid_of 1 k bytes) told written → Stepped (graph_of p) F bytes told (put_mid 1 k bytes written)
-              go (nowhere t b n) = nothing t (rw b (put_same 1 k bytes)) n
-              go (found w x t b) = absurd (omega (arith, pow_pos (lowest free)))
+              go : Sought F (2 ^ lowest free) (lowest free) filled told written → Stepped (graph_of p) F None
+              go (nowhere t b n) = nothing refl n
+              go (found w x t b) = absurd (some_none t z)
 
-          -- its vertices stand in front, behind the first
-          front : (ys : List ℕ) → Completes F (2 ^ lowest free) (lowest free) ys → told ≡ set_of ys + 2 ^ lowest free → written ≡ ys ++ drop (length ys) (mid_of 1 k bytes) → 0 < length bytes
-              → Fronted p (lowest free ∷ ys) told (set (put_mid 1 k bytes written) 0 v)
+          -- the exchange that it finds
+          pub record Found (set : VertexSet) : Type 0 where
+            pub ys : List ℕ
+            pub completes : Completes F (2 ^ lowest free) (lowest free) ys
+            pub leftmost : Leftmost F (2 ^ lowest free) (lowest free) ys
+            pub set_is : set ≡ record { 0 = set_of (lowest free ∷ ys) }
+            pub written_is : written ≡ ys ++ drop (length ys) filled
+
+          pub finds : {set : VertexSet} → told ≡ Some set → Found set
           unfolding set_of
-          front ys w t b long = record {
-            some = omega arith;
-            apart = exchange_distinct (graph_of p) (exchange ys w);
-            below = exchange_below (graph_of p) (exchange ys w);
-            set_is = t ∙ omega arith;
-            behind = drop (length ys) (mid_of 1 k bytes) ++ drop k (drop 1 bytes);
-            front = rw (low, b) (first_set bytes long);
-          }
+          finds {set} z = go sought_low
             where
-              first_set : (bytes : List ℕ) → 0 < length bytes → set (put_mid 1 k bytes (ys ++ drop (length ys) (mid_of 1 k bytes))) 0 (lowest free) ≡ (lowest free ∷ ys) ++ (drop (length ys) (mid_of 1 k bytes) ++ drop k (drop 1 bytes))
-              first_set [] n = absurd (omega arith)
-              first_set (x ∷ bytes) n = rw append_assoc
+              go : Sought F (2 ^ lowest free) (lowest free) filled told written → Found set
+              go (nowhere t b n) = absurd (some_none z t)
+              go (found {ys = ys} w x t b) = record {
+                ys = ys;
+                completes = w;
+                leftmost = x;
+                set_is = some_same (sym z ∙ t) ∙ ap (λ (s : ℕ). record { 0 = s }) (omega arith);
+                written_is = b;
+              }
 
-          pub told_lt : told ≢ 0 → 0 < length bytes → told < 2 ^ p.size
-          told_lt ne long = go sought_low
-            where
-              go : Sought F (2 ^ lowest free) (lowest free) (mid_of 1 k bytes) told written → told < 2 ^ p.size
-              go (nowhere t b n) = absurd (ne t)
-              go (found {ys = ys} w x t b) = let f = front ys w t b long in rw f.set_is (set_of_lt p.size (lowest free ∷ ys) f.apart f.below)
+          pub one_taken : {set : VertexSet} (f : Found set) {taken : Taken} → taken ≡ record { set = set; bytes = record_of (graph_of p) (lowest free ∷ f.ys) } → Stepped (graph_of p) F (Some taken)
+          one_taken f e = first {ys = f.ys} f.completes f.leftmost (ap (λ (t : Taken). Some t) (e ∙ ap (λ (s : VertexSet). record { set = s; bytes = record_of (graph_of p) (lowest free ∷ f.ys) }) f.set_is))
 
-          pub one_taken : told ≢ 0 → 0 < length bytes → {record' : List ℕ} → ((xs : List ℕ) → Fronted p xs told (set (put_mid 1 k bytes written) 0 v) → record' ≡ record_of (graph_of p) xs)
-              → Stepped (graph_of p) F bytes told record'
-          one_taken ne long {record'} completed = go sought_low
-            where
-              go : Sought F (2 ^ lowest free) (lowest free) (mid_of 1 k bytes) told written → Stepped (graph_of p) F bytes told record'
-              go (nowhere t b n) = absurd (ne t)
-              go (found {ys = ys} w x t b) = let f = front ys w t b long in first {ys = ys} w x f.set_is (completed (lowest free ∷ ys) f)
+          -- the record as the code writes it: filled up, its vertices from the first on, its kind and its members
+          module _ {more : ℕ} (more_is : more ≡ more_by (ltb v p.altruists) l.cycle l.chain) (filled_is : filled ≡ mid_of 1 (1 + more - 1) (v ∷ replicate 15 255)) where
+            pub record_is : {set : VertexSet} (f : Found set) {kind members : ℕ} → kind ≡ kind_of (graph_of p) (v ∷ [])
+                → members ≡ worth_of (member_worth (graph_of p)) p.size set.0
+                → put (put (put_mid 1 (1 + more - 1) (v ∷ replicate 15 255) written) 14 kind) 15 members ≡ record_of (graph_of p) (lowest free ∷ f.ys)
+            record_is {set} f {kind} {members} k m =
+                let g = graph_of p in
+                let x = exchange f.ys f.completes in
+                let few = fits_few (small_fits (fits_size p c.fits)) x in
+                let inside : length f.ys ≤ 1 + more - 1 = omega (arith, short f.ys f.completes, more_is ∙ ap (λ (u : ℕ). more_by (ltb u p.altruists) l.cycle l.chain) low) in
+                ap (λ (l : List ℕ). put (put l 14 kind) 15 members)
+                (ap (put_mid 1 (1 + more - 1) (v ∷ replicate 15 255)) f.written_is ∙ rw (filled_is, low) (vertices_written (lowest free) f.ys inside (omega (arith, more_le more_is)) few))
+                ∙ record_written g (lowest free ∷ f.ys) few (k ∙ rw low (kind_alone g (lowest free) f.ys))
+                (m ∙ ap (λ (s : VertexSet). worth_of (member_worth g) p.size s.0) f.set_is ∙ list_worth (member_worth g) p.size (lowest free ∷ f.ys) (exchange_distinct g x) (exchange_below g x))

@@ -1,6 +1,7 @@
 // Layer three of document 01: clearing. Both tables, and the first of the plans that are worth most, chosen step by step.
 #![tactic(auto)]
 
+mod choice;
 mod choosing;
 mod chosen_record;
 mod clearing;

@@ -50,10 +50,10 @@ pub write_plan-records-requires : goal.write_plan-records-requires
 write_plan-records-requires c =
     let t = holds c.requires in
     record {
-      t = t.fits;
-      t_2 = t.within;
-      tables_hold = hold t c.fill_exchanges.auto.table c.fill_exchanges.ensures.left c.fill_best.ensures.left;
-      size_in_bounds = t.plan_long;
+      fitting_pool = t.fits;
+      fitting_limits = t.within;
+      hold = hold t c.fill_exchanges.auto.table c.fill_exchanges.ensures.left c.fill_best.ensures.left;
+      room = t.plan_long;
     }
 
 pub overflow_shl-all : goal.overflow_shl-all
