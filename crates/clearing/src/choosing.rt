@@ -27,9 +27,7 @@ impl Choice<'_> {
                 let at = WIDTH * records;
                 plan[at..at + WIDTH].copy_from_slice(&taken.bytes);
                 records += 1;
-                let open = free.0;
-                let used = taken.set.0;
-                free = VertexSet(open - used);
+                free = VertexSet(free.0 - taken.set.0);
             } else {
                 free = free.without(free.lowest());
             }

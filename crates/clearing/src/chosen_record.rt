@@ -12,9 +12,9 @@ use sets::VertexSet;
 // The bytes of a record: the vertices, filled up, the kind and the members.
 pub(crate) const WIDTH: usize = 16;
 
-pub(crate) const KIND: usize = 14;
+pub(crate) const KIND_AT: usize = 14;
 
-pub(crate) const MEMBERS: usize = 15;
+pub(crate) const MEMBERS_AT: usize = 15;
 
 // What stands behind the vertices of a record.
 pub(crate) const FILLER: u8 = 255;

@@ -6,7 +6,7 @@ ghost use Rattle.std.specs.Prelude.{◌≡◌, ◌≤◌, ◌<◌, ◌^◌, T, l
 use sets::VertexSet;
 
 // As many sets as 14 vertices have: for each what failed from it on.
-pub(crate) const SETS: usize = 16384;
+pub(crate) const SETS: usize = 1 << 14;
 
 // What all paths of a step go by.
 #[derive(Drop)]
@@ -35,15 +35,13 @@ impl Step<'_> {
         requires { path.0 ≤ self.now.free.0 }
         ensures { result ≡ has (ends_of (ways_of self.now) path.0) u }
     {
-        let set = path.0;
-        let here = set as usize;
+        let best = self.best;
+        let here = path.0 as usize;
         if !VertexSet(self.exchanges[here]).has(u) {
             return false;
         }
-        let free = self.free.0;
-        let all = free as usize;
-        let rest = (free - set) as usize;
-        let best = self.best;
+        let all = self.free.0 as usize;
+        let rest = all - here;
         best[here] as u64 + best[rest] as u64 == best[all] as u64
     }
 
@@ -58,13 +56,12 @@ impl Step<'_> {
         if more == 0 {
             return VertexSet(0);
         }
-        let set = path.0;
-        let rest = self.free.0 - set;
+        let rest = self.free.0 - path.0;
         if self.goal.0 & rest == 0 {
             return VertexSet(0);
         }
         let ways = self.gives[u as usize] & rest;
-        VertexSet(ways - (dead[set as usize] & ways))
+        VertexSet(ways - (dead[path.0 as usize] & ways))
     }
 
     // Nothing is left to go on to: tells the path's set where it may end at u, else keeps that it failed.
@@ -79,10 +76,9 @@ impl Step<'_> {
             return Some(path);
         }
         // By bits: with and without would ask again whether u is below 16, on every path that fails.
-        let set = path.0;
         let bit = 1u16 << u;
-        let before = (set - bit) as usize;
-        dead[before] = dead[before] | bit;
+        let before = (path.0 - bit) as usize;
+        dead[before] |= bit;
         None
     }
 

@@ -5,7 +5,7 @@ ghost use Rattle.pool.specs.Value.{graph_of};
 ghost use Rattle.clearing.specs.inner.Taking.{more_by, goal_by, Clean, pool_field, Stepped};
 
 use crate::choice::Choice;
-use crate::chosen_record::{FILLER, KIND, MEMBERS, WIDTH};
+use crate::chosen_record::{FILLER, KIND_AT, MEMBERS_AT, WIDTH};
 use crate::seeking::{SETS, Step};
 use sets::VertexSet;
 
@@ -62,8 +62,8 @@ impl Choice<'_> {
         let mut bytes = [FILLER; WIDTH];
         bytes[0] = first;
         let set = step.seek(dead, &mut bytes[1..end], path, first)?;
-        bytes[KIND] = self.kind_of(first).byte();
-        bytes[MEMBERS] = self.members_in(set);
+        bytes[KIND_AT] = self.kind_of(first).byte();
+        bytes[MEMBERS_AT] = self.members_in(set);
         Some(Taken { set, bytes })
     }
 }
