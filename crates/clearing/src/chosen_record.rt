@@ -36,6 +36,7 @@ impl Kind {
 
 impl Choice<'_> {
     // The members in a set.
+    #[tactic(auto, using(crate::proofs::RecordCode::members_counted))]
     pub(crate) fn members_in(&self, set: VertexSet) -> u8
         ensures { result ≡ worth_of (member_worth (graph_of self.now.pool)) self.now.pool.size set.0 }
     {
@@ -43,6 +44,7 @@ impl Choice<'_> {
     }
 
     // The kind of an exchange, by its first vertex.
+    #[tactic(auto, using(crate::proofs::RecordCode::chain_kind, crate::proofs::RecordCode::ring_kind))]
     pub(crate) fn kind_of(&self, first: u8) -> Kind
         ensures { kind_byte result ≡ kind_of (graph_of self.now.pool) (first ∷ []) }
     {

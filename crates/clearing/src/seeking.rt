@@ -31,6 +31,7 @@ impl Step<'_> {
 
     // May a path on the set end at u? It is an exchange then, so its entry in the best table is all that it is worth, and with what it
     // leaves the best of the free vertices can be reached.
+    #[tactic(auto, using(crate::proofs::Seek::no_end, crate::proofs::Seek::end_by), unfolding(crate::specs::inner::Seeking::ends_of))]
     fn may_end(&self, path: VertexSet, u: u8) -> bool
         requires { path.0 ≤ self.now.free.0 }
         ensures { result ≡ has (ends_of (ways_of self.now) path.0) u }
@@ -48,6 +49,7 @@ impl Step<'_> {
     // The vertices to try next from u on, where at most `more` may follow it: those that it gives to and that are free beside the path,
     // but what failed. None where no vertex is left at which the path may end: a first vertex with few givers would else cost a
     // search of all paths.
+    #[tactic(auto, unfolding(crate::specs::inner::Seeking::open_at))]
     fn open_at(&self, dead: &[u16; SETS], path: VertexSet, u: u8, more: usize) -> VertexSet
         requires in_gives { u < 14 }
         requires inside { path.0 ≤ self.now.free.0 }

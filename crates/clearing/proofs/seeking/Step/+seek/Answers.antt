@@ -1,6 +1,7 @@
-use mathlib.Core.Path.{◌≡◌, refl, sym}
+use mathlib.Core.Path.{◌≡◌, refl}
 use Prim.Native.Nat.{◌-◌}
 use native.Mathlib.Omega.{arith}
+use borrow.Author.Rules.{rules}
 use borrow.Rule.Slice.PartMut.{put_mid, same_len_mid}
 use lib.ListN.{length}
 use Rattle.clearing.proofs.Seek.{path_le, last_lt, opens, ended, room, deeper_falls, deeper, kept_there, found_there, none_there, onward_falls}
@@ -35,7 +36,7 @@ seek-requires t c =
     let some = c.loop-left-test.true in
     let low = c.lowest-v.ensures in
     let put = c.with-longer.ensures in
-    (omega (arith, deeper_falls few inv some low put), deeper few inv some low put (sym c.seek-arg-in-loop-left-1.given.1))
+    (omega (arith, deeper_falls few inv some low put), deeper few inv some low put (search rules))
 
 pub bounds-bytes-0 : goal.bounds-bytes-0
 bounds-bytes-0 t c =
