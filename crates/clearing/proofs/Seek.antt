@@ -17,11 +17,11 @@ use borrow.Author.Tests.{not-true, not-false}
 use borrow.Rule.Slice.PartMut.{put_mid, mid_of, put_same}
 use Rattle.kep.specs.Sets.{has, Part, counted, set_of, lowest_below, with_vertex, without_vertex}
 use Rattle.kep.specs.Exchange.{last_of}
-use Rattle.kep.proofs.Tests.{from_true, from_false, eq→eqb, and_iff}
+use Rattle.kep.proofs.Tests.{or_right, from_true, from_false, eq→eqb, and_iff}
 use Rattle.kep.proofs.SetLaws.{IsLowest, nonempty, lowest_is, lowest_below_lem, has_below, has_none, not_in_empty}
-use Rattle.kep.proofs.Parts.{part_le, part_refl, part_trans, has_and, in_rest, and_part}
+use Rattle.kep.proofs.Parts.{part_le, part_refl, part_trans, has_and, has_or, in_rest, and_part}
 use Rattle.kep.proofs.Operations.{with_cases, with_or, with_new, without_old}
-use Rattle.kep.proofs.Vertices.{in_with, with_part, with_without, in_without, bit_le}
+use Rattle.kep.proofs.Vertices.{in_power, in_with, with_part, with_without, in_without, bit_le}
 use Rattle.sets.specs.declared.vertex_set.VertexSet.{VertexSet}
 use Rattle.kep.specs.inner.Paths.{Field, Next, Completes, Completable, stop, go_on}
 use Rattle.clearing.specs.inner.Seeking.{Ways, field_of, ends_of, open_at, DeadEnds, KeptBut, kept_dead, Entering, Sought, nowhere, found}
@@ -54,6 +54,15 @@ pub kept_as : (dead : List ℕ) (path u : ℕ) → path < 2 ^ 16 → T (has path
     → set dead (path - 2 ^ u) (bit_or (get_or dead (path - 2 ^ u) 0) (2 ^ u)) ≡ kept_dead false dead path u
 kept_as dead path u wide i l small = rw (without_old 16 path wide u i, with_or 16 (get_or dead (path - 2 ^ u) 0) small u l)
 
+-- ---- a path by its set and its last vertex
+
+pub few_last : {free path u : ℕ} → free < 2 ^ 14 → path ≤ free → T (has path u) → u < 14
+few_last {free} {path} {u} wide inside h = has_below 14 path u (omega (arith, inside, wide)) h
+
+-- it goes on to v
+pub has_with : {r : ℕ} (s v : ℕ) → r ≡ with_vertex 16 s v → s < 2 ^ 16 → v < 14 → T (has r v)
+has_with s v e small l = rw (e, with_or 16 s small v (omega arith), has_or s (2 ^ v) v) (or_right (has s v) (has (2 ^ v) v) ((in_power v v).1 refl))
+
 -- where a path goes on, its last vertex is free and was not on it
 pub last_fresh : (f : Field) (ys : List ℕ) (path u v : ℕ) → Completes f path u (v ∷ ys) → T (has f.free (last_of v ys)) × (T (has path (last_of v ys)) → ⊥)
 unfolding last_of
@@ -78,9 +87,6 @@ module _ {s : Ways} {dead : List ℕ} {path u more : ℕ} (wide : s.free < 2 ^ 1
 
   came_from : without_vertex 16 path u ≡ path - 2 ^ u
   came_from = without_old 16 path wide_path u e.last
-
-  pub last_lt : u < 14
-  last_lt = has_below 14 path u (omega (arith, path_le, wide)) e.last
 
   -- ---- the vertices to try
 

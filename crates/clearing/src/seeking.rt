@@ -2,11 +2,20 @@
 // looked at only after all ways on. So what it finds first comes first byte by byte. What failed is kept, so no set with a last
 // vertex is searched twice.
 ghost use Rattle.std.specs.Prelude.{◌≡◌, ◌≤◌, ◌<◌, ◌^◌, T, length, if◌then◌else◌, Some, None};
+ghost use Rattle.kep.specs.Sets.{has};
 
 use sets::VertexSet;
 
 // As many sets as 14 vertices have: for each what failed from it on.
 pub(crate) const SETS: usize = 1 << 14;
+
+// A path from the lowest free vertex on: the set of its vertices, and its last vertex.
+#[derive(Clone, Copy)]
+pub(crate) struct Path {
+    pub set: VertexSet,
+    pub last: u8,
+    ghost ends_there: { T (has set.0 last) },
+}
 
 // What all paths of a step go by.
 #[derive(Drop)]
@@ -26,19 +35,18 @@ pub(crate) struct Step<'a> {
 }
 
 impl Step<'_> {
-    ghost use Rattle.kep.specs.Sets.{has};
     ghost use Rattle.clearing.specs.inner.Seeking.{ways_of, field_of, ends_of, open_at, kept_dead, Entering, DeadEnds, KeptBut, Sought};
 
-    // May a path on the set end at u? It is an exchange then, so its entry in the best table is all that it is worth, and with what it
+    // May a path end where it is? It is an exchange then, so its entry in the best table is all that it is worth, and with what it
     // leaves the best of the free vertices can be reached.
     #[tactic(auto, using(crate::proofs::Seek::no_end, crate::proofs::Seek::end_by), unfolding(crate::specs::inner::Seeking::ends_of))]
-    fn may_end(&self, path: VertexSet, u: u8) -> bool
-        requires { path.0 ≤ self.now.free.0 }
-        ensures { result ≡ has (ends_of (ways_of self.now) path.0) u }
+    fn may_end(&self, path: Path) -> bool
+        requires { path.set.0 ≤ self.now.free.0 }
+        ensures { result ≡ has (ends_of (ways_of self.now) path.set.0) path.last }
     {
         let best = self.best;
-        let here = path.0 as usize;
-        if !VertexSet(self.exchanges[here]).has(u) {
+        let here = path.set.0 as usize;
+        if !VertexSet(self.exchanges[here]).has(path.last) {
             return false;
         }
         let all = self.free.0 as usize;
@@ -46,68 +54,67 @@ impl Step<'_> {
         best[here] as u64 + best[rest] as u64 == best[all] as u64
     }
 
-    // The vertices to try next from u on, where at most `more` may follow it: those that it gives to and that are free beside the path,
+    // The vertices to try next, where at most `more` may follow: those that the last gives to and that are free beside the path,
     // but what failed. None where no vertex is left at which the path may end: a first vertex with few givers would else cost a
     // search of all paths.
     #[tactic(auto, unfolding(crate::specs::inner::Seeking::open_at))]
-    fn open_at(&self, dead: &[u16; SETS], path: VertexSet, u: u8, more: usize) -> VertexSet
-        requires in_gives { u < 14 }
-        requires inside { path.0 ≤ self.now.free.0 }
-        ensures { result.0 ≡ open_at (ways_of self.now) dead.now path.0 u more }
+    fn open_at(&self, dead: &[u16; SETS], path: Path, more: usize) -> VertexSet
+        requires { path.set.0 ≤ self.now.free.0 }
+        ensures { result.0 ≡ open_at (ways_of self.now) dead.now path.set.0 path.last more }
     {
         if more == 0 {
             return VertexSet(0);
         }
-        let rest = self.free.0 - path.0;
+        let rest = self.free.0 - path.set.0;
         if self.goal.0 & rest == 0 {
             return VertexSet(0);
         }
-        let ways = self.gives[u as usize] & rest;
-        VertexSet(ways - (dead[path.0 as usize] & ways))
+        let ways = self.gives[path.last as usize] & rest;
+        VertexSet(ways - (dead[path.set.0 as usize] & ways))
     }
 
-    // Nothing is left to go on to: tells the path's set where it may end at u, else keeps that it failed.
-    fn end_at(&self, dead: &mut [u16; SETS], path: VertexSet, u: u8) -> Option<VertexSet>
-        requires vertex { u < 14 }
-        requires inside { path.0 ≤ self.now.free.0 }
-        requires last { T (has path.0 u) }
-        ensures told { result ≡ (if has (ends_of (ways_of self.now) path.0) u then Some path else None) }
-        ensures kept { dead.new ≡ kept_dead (has (ends_of (ways_of self.now) path.0) u) dead.old path.0 u }
+    // Nothing is left to go on to: tells the path's set where it may end, else keeps that it failed.
+    fn end_at(&self, dead: &mut [u16; SETS], path: Path) -> Option<VertexSet>
+        requires { path.set.0 ≤ self.now.free.0 }
+        ensures told { result ≡ (if has (ends_of (ways_of self.now) path.set.0) path.last then Some path.set else None) }
+        ensures kept { dead.new ≡ kept_dead (has (ends_of (ways_of self.now) path.set.0) path.last) dead.old path.set.0 path.last }
     {
-        if self.may_end(path, u) {
-            return Some(path);
+        if self.may_end(path) {
+            return Some(path.set);
         }
-        // By bits: with and without would ask again whether u is below 16, on every path that fails.
-        let bit = 1u16 << u;
-        let before = (path.0 - bit) as usize;
+        // By bits: with and without would ask again whether the vertex is below 16, on every path that fails.
+        let bit = 1u16 << path.last;
+        let before = (path.set.0 - bit) as usize;
         dead[before] |= bit;
         None
     }
 
-    // Seeks from the path's last vertex u on. Where it finds an exchange it writes the vertices that follow u, and tells the set of
-    // all. No more vertices may follow than there are bytes.
+    // Seeks from the path's last vertex on. Where it finds an exchange it writes the vertices that follow, and tells the set of all. No
+    // more vertices may follow than there are bytes.
     pub(crate) fn seek(
         &self,
         dead: &mut [u16; SETS],
         bytes: &mut [u8],
-        path: VertexSet,
-        u: u8,
+        path: Path,
     ) -> Option<VertexSet>
-        requires { Entering (ways_of self.now) dead.old path.0 u (length bytes.old) }
+        requires { Entering (ways_of self.now) dead.old path.set.0 path.last (length bytes.old) }
         ensures dead { DeadEnds (field_of (ways_of self.now)) dead.new }
-        ensures kept { KeptBut path.0 u dead.old dead.new }
-        ensures sought { Sought (field_of (ways_of self.now)) path.0 u bytes.old result bytes.new }
+        ensures kept { KeptBut path.set.0 path.last dead.old dead.new }
+        ensures sought { Sought (field_of (ways_of self.now)) path.set.0 path.last bytes.old result bytes.new }
     {
-        let mut left = self.open_at(dead, path, u, bytes.len());
+        let mut left = self.open_at(dead, path, bytes.len());
         while left.0 != 0 {
             let v = left.lowest();
-            let longer = path.with(v);
-            if let Some(set) = self.seek(dead, &mut bytes[1..], longer, v) {
+            let longer = Path {
+                set: path.set.with(v),
+                last: v,
+            };
+            if let Some(set) = self.seek(dead, &mut bytes[1..], longer) {
                 bytes[0] = v;
                 return Some(set);
             }
             left = left.without(v);
         }
-        self.end_at(dead, path, u)
+        self.end_at(dead, path)
     }
 }

@@ -6,7 +6,7 @@ ghost use Rattle.clearing.specs.inner.Taking.{more_by, goal_by, Clean, pool_fiel
 
 use crate::choice::Choice;
 use crate::chosen_record::{FILLER, KIND_AT, MEMBERS_AT, WIDTH};
-use crate::seeking::{SETS, Step};
+use crate::seeking::{Path, SETS, Step};
 use sets::VertexSet;
 
 // An exchange that a step takes: its set and its record.
@@ -58,10 +58,13 @@ impl Choice<'_> {
             goal: self.goal_from(first),
         };
         let end = 1 + self.more_from(first) as usize;
-        let path = VertexSet(0).with(first);
+        let path = Path {
+            set: VertexSet(0).with(first),
+            last: first,
+        };
         let mut bytes = [FILLER; WIDTH];
         bytes[0] = first;
-        let set = step.seek(dead, &mut bytes[1..end], path, first)?;
+        let set = step.seek(dead, &mut bytes[1..end], path)?;
         bytes[KIND_AT] = self.kind_of(first).byte();
         bytes[MEMBERS_AT] = self.members_in(set);
         Some(Taken { set, bytes })

@@ -74,12 +74,12 @@ slice_bounds-copy_from_slice-end c = part_end (room c.args.self.now.choosing c.l
 pub overflow_sub-free-in-Some : goal.overflow_sub-free-in-Some
 overflow_sub-free-in-Some c =
     let t = c.take_exchange.ensures in
-    (goes_on c.args.self.now.choosing c.loop-free.invariant.made c.loop-free-test.true t.stepped t.clean c.in-Some.is).0
+    omega (arith, (goes_on c.args.self.now.choosing c.loop-free.invariant.made c.loop-free-test.true t.stepped t.clean c.in-Some.is).0)
 
 pub loop-free-smaller-in-Some : goal.loop-free-smaller-in-Some
 loop-free-smaller-in-Some c =
     let t = c.take_exchange.ensures in
-    (goes_on c.args.self.now.choosing c.loop-free.invariant.made c.loop-free-test.true t.stepped t.clean c.in-Some.is).1
+    omega (arith, (goes_on c.args.self.now.choosing c.loop-free.invariant.made c.loop-free-test.true t.stepped t.clean c.in-Some.is).1)
 
 pub loop-free-preserved-in-Some : goal.loop-free-preserved-in-Some
 loop-free-preserved-in-Some c =

@@ -2,11 +2,15 @@ use mathlib.Core.Path.{refl, ap, ◌∙◌}
 use native.Mathlib.Omega.{arith}
 use mathlib.Core.List.{List}
 use Prim.Native.Nat.{ℕ}
+use Rattle.clearing.proofs.Seek.{has_with}
 use Rattle.clearing.proofs.StepCode.{first_lt, small, exchanges_long, best_long, part_long, starts, still_clean, none_taken, finds, one_taken, record_is}
 use Rattle.clearing.proofs.choice.Choice.take_exchange.Goals as goal
 
 pub goal_from-requires : goal.goal_from-requires
 goal_from-requires c = let r = c.requires in first_lt c.args.self.now.choosing r.some r.inside c.lowest-first.ensures
+
+pub invariant_of-path : goal.invariant_of-path
+invariant_of-path c = let r = c.requires in record { ends_there = has_with 0 c.lowest-first.result c.with.ensures (omega arith) (first_lt c.args.self.now.choosing r.some r.inside c.lowest-first.ensures) }
 
 pub invariant_of-step : goal.invariant_of-step
 invariant_of-step c =
@@ -22,24 +26,24 @@ pub seek-requires : goal.seek-requires
 seek-requires c =
     let r = c.requires in
     let k = c.args.self.now.choosing in
-    starts k r.some r.inside c.lowest-first.ensures c.goal_from.ensures c.with-path.ensures (part_long k r.some r.inside c.lowest-first.ensures c.more_from.ensures) r.clean
+    starts k r.some r.inside c.lowest-first.ensures c.goal_from.ensures c.with.ensures (part_long k r.some r.inside c.lowest-first.ensures c.more_from.ensures) r.clean
 
 pub returns-in_err-set : goal.returns-in_err-set
 returns-in_err-set c =
     let r = c.requires in
     let k = c.args.self.now.choosing in
     record {
-      clean = still_clean k r.some r.inside c.lowest-first.ensures c.goal_from.ensures c.with-path.ensures r.clean c.seek.ensures.kept;
-      stepped = rw c.from_residual.ensures (none_taken k r.some r.inside c.lowest-first.ensures c.goal_from.ensures c.with-path.ensures c.seek.ensures.sought c.in_err-set.was);
+      clean = still_clean k r.some r.inside c.lowest-first.ensures c.goal_from.ensures c.with.ensures r.clean c.seek.ensures.kept;
+      stepped = rw c.from_residual.ensures (none_taken k r.some r.inside c.lowest-first.ensures c.goal_from.ensures c.with.ensures c.seek.ensures.sought c.in_err-set.was);
     }
 
 pub returns : goal.returns
 returns c =
     let r = c.requires in
     let k = c.args.self.now.choosing in
-    let f = finds k r.some r.inside c.lowest-first.ensures c.goal_from.ensures c.with-path.ensures c.seek.ensures.sought c.in_ok-set.was in
-    let written = record_is k r.some r.inside c.lowest-first.ensures c.goal_from.ensures c.with-path.ensures c.seek.ensures.sought c.more_from.ensures refl f (c.byte.ensures ∙ c.kind_of.ensures) c.members_in.ensures in
+    let f = finds k r.some r.inside c.lowest-first.ensures c.goal_from.ensures c.with.ensures c.seek.ensures.sought c.in_ok-set.was in
+    let written = record_is k r.some r.inside c.lowest-first.ensures c.goal_from.ensures c.with.ensures c.seek.ensures.sought c.more_from.ensures refl f (c.byte.ensures ∙ c.kind_of.ensures) c.members_in.ensures in
     record {
-      clean = still_clean k r.some r.inside c.lowest-first.ensures c.goal_from.ensures c.with-path.ensures r.clean c.seek.ensures.kept;
-      stepped = one_taken k r.some r.inside c.lowest-first.ensures c.goal_from.ensures c.with-path.ensures c.seek.ensures.sought f (ap (λ (l : List ℕ). record { set = c.in_ok-set.set; bytes = l }) written);
+      clean = still_clean k r.some r.inside c.lowest-first.ensures c.goal_from.ensures c.with.ensures r.clean c.seek.ensures.kept;
+      stepped = one_taken k r.some r.inside c.lowest-first.ensures c.goal_from.ensures c.with.ensures c.seek.ensures.sought f (ap (λ (l : List ℕ). record { set = c.in_ok-set.set; bytes = l }) written);
     }

@@ -4,13 +4,11 @@ use native.Mathlib.Omega.{arith}
 use borrow.Author.Rules.{rules}
 use borrow.Rule.Slice.PartMut.{put_mid, same_len_mid}
 use lib.ListN.{length}
-use Rattle.clearing.proofs.Seek.{path_le, last_lt, opens, ended, room, deeper_falls, deeper, kept_there, found_there, none_there, onward_falls}
+use Rattle.clearing.proofs.Seek.{path_le, next_lt, has_with, opens, ended, room, deeper_falls, deeper, kept_there, found_there, none_there, onward_falls}
 use Rattle.clearing.proofs.seeking.Step.+seek.Goals as goal
 
 pub open_at-left-requires : goal.open_at-left-requires
-open_at-left-requires t c =
-    let few = c.args.self.now.few in
-    record { in_gives = last_lt few c.requires; inside = path_le few c.requires }
+open_at-left-requires t c = path_le c.args.self.now.few c.requires
 
 pub loop-left-init : goal.loop-left-init
 loop-left-init t c =
@@ -35,7 +33,7 @@ seek-requires t c =
     let inv = c.loop-left.invariant in
     let some = c.loop-left-test.true in
     let low = c.lowest-v.ensures in
-    let put = c.with-longer.ensures in
+    let put = c.with.ensures in
     (omega (arith, deeper_falls few inv some low put), deeper few inv some low put (search rules))
 
 pub bounds-bytes-0 : goal.bounds-bytes-0
@@ -50,7 +48,7 @@ returns-in-Some t c =
     let inv = c.loop-left.invariant in
     let some = c.loop-left-test.true in
     let low = c.lowest-v.ensures in
-    let put = c.with-longer.ensures in
+    let put = c.with.ensures in
     let e = c.seek.ensures in
     record { dead = e.dead; kept = kept_there few inv some low put e.kept; sought = rw (← c.in-Some.is) (found_there few inv some low put e.sought c.in-Some.is) }
 
@@ -60,12 +58,13 @@ loop-left-smaller t c = onward_falls c.args.self.now.few c.loop-left.invariant c
 pub loop-left-preserved : goal.loop-left-preserved
 loop-left-preserved t c =
     let e = c.seek.ensures in
-    none_there c.args.self.now.few c.loop-left.invariant c.loop-left-test.true c.lowest-v.ensures c.with-longer.ensures e.sought c.without-left.ensures c.in_default.is c.seek.array_long e.dead e.kept
+    none_there c.args.self.now.few c.loop-left.invariant c.loop-left-test.true c.lowest-v.ensures c.with.ensures e.sought c.without-left.ensures c.in_default.is c.seek.array_long e.dead e.kept
 
 pub end_at-requires : goal.end_at-requires
-end_at-requires t c =
-    let few = c.args.self.now.few in
-    record { vertex = last_lt few c.requires; inside = path_le few c.requires; last = c.requires.last }
+end_at-requires t c = path_le c.args.self.now.few c.requires
+
+pub invariant_of-longer : goal.invariant_of-longer
+invariant_of-longer t c = record { ends_there = has_with c.args.path.set.0 c.lowest-v.result c.with.ensures (search rules) (next_lt c.args.self.now.few c.loop-left.invariant c.loop-left-test.true c.lowest-v.ensures) }
 
 pub returns : goal.returns
 returns t c =

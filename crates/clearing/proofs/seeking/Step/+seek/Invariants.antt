@@ -5,10 +5,10 @@ use Rattle.clearing.proofs.Seek.{Trying}
 use Rattle.clearing.proofs.seeking.Step.+seek.Given as goal
 
 abbrev pub decreases-seek : goal.decreases-seek
-decreases-seek l = l.self.now.free.0 - l.path.0
+decreases-seek l = l.self.now.free.0 - l.path.set.0
 
 abbrev pub invariant-loop-left : goal.invariant-loop-left
-invariant-loop-left l = Trying (ways_of l.self) l.initial.dead l.initial.bytes l.path.0 l.u l.dead l.bytes l.left.0
+invariant-loop-left l = Trying (ways_of l.self) l.initial.dead l.initial.bytes l.path.set.0 l.path.last l.dead l.bytes l.left.0
 
 abbrev pub decreases-loop-left : goal.decreases-loop-left
 decreases-loop-left l = l.left.0

@@ -3,16 +3,20 @@ use mathlib.Core.Path.{sym, ◌∙◌}
 use native.Mathlib.Omega.{arith}
 use Rattle.kep.proofs.Operations.{one_shl}
 use Rattle.kep.proofs.Vertices.{bit_le}
-use Rattle.clearing.proofs.Seek.{kept_as}
+use Rattle.clearing.proofs.Seek.{few_last, kept_as}
 use Rattle.clearing.proofs.seeking.Step.end_at.Goals as goal
+
+pub overflow_shl-bit : goal.overflow_shl-bit
+overflow_shl-bit c = omega (arith, few_last c.args.self.now.few c.requires c.args.path.ends_there)
 
 pub overflow_sub-before : goal.overflow_sub-before
 overflow_sub-before c =
-    let a = c.args in
-    omega (arith, one_shl 16 a.u (omega (arith, c.requires.vertex)), bit_le a.path.0 a.u c.requires.last)
+    let p = c.args.path in
+    omega (arith, one_shl 16 p.last (omega (arith, few_last c.args.self.now.few c.requires p.ends_there)), bit_le p.set.0 p.last p.ends_there)
 
 pub returns-clause-kept : goal.returns-clause-kept
 returns-clause-kept c =
-    let a = c.args in
-    rw (sym c.may_end.ensures ∙ c.if-may_end.false, one_shl 16 a.u (omega (arith, c.requires.vertex)))
-    (kept_as a.dead.now a.path.0 a.u (omega (arith, c.args.self.now.few)) c.requires.last (omega (arith, c.requires.vertex)) (search rules))
+    let p = c.args.path in
+    let last = few_last c.args.self.now.few c.requires p.ends_there in
+    rw (sym c.may_end.ensures ∙ c.if-may_end.false, one_shl 16 p.last (omega (arith, last)))
+    (kept_as c.args.dead.now p.set.0 p.last (omega (arith, c.args.self.now.few)) p.ends_there (omega (arith, last)) (search rules))
