@@ -79,7 +79,7 @@ pub record Open (f : Field) (path u left more : ℕ) : Type 0 where
 -- ---- what is lent
 
 module _ {s : Ways} {dead : List ℕ} {path u more : ℕ} (wide : s.free < 2 ^ 14) (e : Entering s dead path u more) where
-  pub path_le : path ≤ s.free
+  path_le : path ≤ s.free
   path_le = part_le e.part
 
   wide_path : path < 2 ^ 16

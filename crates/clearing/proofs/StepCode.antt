@@ -3,7 +3,7 @@
 use mathlib.Core.Bool.{Bool, true, false}
 use mathlib.Core.List.{List, [], ◌∷◌, ◌++◌}
 use mathlib.Core.Logic.{◌↔◌}
-use mathlib.Core.Path.{◌≡◌, refl, sym, ap, ◌∙◌}
+use mathlib.Core.Path.{◌≡◌, refl, sym, ap, ap₂, ◌∙◌}
 use Prim.Native.Nat.{ℕ, zero, suc, ◌+◌, ◌-◌, ◌^◌, ◌≤◌, ◌<◌}
 use native.Mathlib.Omega.{arith}
 use borrow.Author.Tests.{lt-ltb, le-ltb}
@@ -28,7 +28,7 @@ use Rattle.sets.specs.declared.vertex_set.VertexSet.{VertexSet}
 use Rattle.clearing.specs.declared.step.Taken.{Taken}
 use Rattle.kep.specs.Plan.{record_of, kind_of}
 use Rattle.kep.specs.Table.{member_worth}
-use Rattle.kep.specs.inner.Paths.{Field, Completes, Leftmost}
+use Rattle.kep.specs.inner.Paths.{Field, Completes}
 use Rattle.clearing.specs.inner.Seeking.{Ways, field_of, ends_of, KeptBut, Entering, Sought, nowhere, found}
 use Rattle.clearing.specs.inner.Taking.{TablesHold, Choosing, Clean, more_by, goal_by, pool_ways, pool_field, Stepped, nothing, first}
 use Rattle.kep.proofs.Each.{each_first}
@@ -190,7 +190,7 @@ module _ {p : Pool} {l : Limits} {gs exchanges best : List ℕ} (c : Choosing p 
             })
 
         -- what it keeps is on sets with the lowest free vertex, so it is clean on the others
-        pub still_clean : {dead dead' : List ℕ} → Clean free dead → KeptBut path v dead dead' → Clean (free - 2 ^ lowest free) dead'
+        still_clean : {dead dead' : List ℕ} → Clean free dead → KeptBut path v dead dead' → Clean (free - 2 ^ lowest free) dead'
         still_clean {dead} {dead'} clean kept = record { none = none }
           where
             rest : Part (free - 2 ^ lowest free) free
@@ -206,55 +206,47 @@ module _ {p : Pool} {l : Limits} {gs exchanges best : List ℕ} (c : Choosing p 
                 (λ e. omega arith)
                 ∙ clean.none S (part_trans i rest) some_in
 
-        -- ---- what it takes
+        -- ---- what it keeps and takes
 
-        module _ {filled : List ℕ} {told : Option VertexSet} {written : List ℕ} (sought : Sought (field_of step) path v filled told written) where
-          sought_low : Sought F (2 ^ lowest free) (lowest free) filled told written
-          sought_low = rw (first_bit, step_is, low) at sought
+        module _ {dead dead' filled written : List ℕ} {told : Option VertexSet}
+            (clean : Clean free dead)
+            (kept : KeptBut path v dead dead')
+            (sought : Sought (field_of step) path v filled told written)
+          where
+            sought_low : Sought F (2 ^ lowest free) (lowest free) filled told written
+            sought_low = rw (first_bit, step_is, low) at sought
 
-          pub none_taken : told ≡ None → Stepped (graph_of p) F None
-          none_taken z = go sought_low
-            where
-              go : Sought F (2 ^ lowest free) (lowest free) filled told written → Stepped (graph_of p) F None
-              go (nowhere t b n) = nothing refl n
-              go (found w x t b) = absurd (some_none t z)
+            pub none_taken : told ≡ None → {taken : Option Taken} → taken ≡ None → Clean (free - 2 ^ lowest free) dead' × Stepped (graph_of p) F taken
+            none_taken z {taken} e = (still_clean clean kept, go sought_low)
+              where
+                go : Sought F (2 ^ lowest free) (lowest free) filled told written → Stepped (graph_of p) F taken
+                go (nowhere t b n) = nothing e n
+                go (found w x t b) = absurd (some_none t z)
 
-          -- the exchange that it finds
-          pub record Found (set : VertexSet) : Type 0 where
-            pub ys : List ℕ
-            pub completes : Completes F (2 ^ lowest free) (lowest free) ys
-            pub leftmost : Leftmost F (2 ^ lowest free) (lowest free) ys
-            pub set_is : set ≡ record { 0 = set_of (lowest free ∷ ys) }
-            pub written_is : written ≡ ys ++ drop (length ys) filled
+            -- the record as the code writes it: filled up, the vertices from the first on, the kind and the members
+            module _ {more : ℕ} (more_is : more ≡ more_by (ltb v p.altruists) l.cycle l.chain) (filled_is : filled ≡ mid_of 1 (1 + more - 1) (v ∷ replicate 15 255)) where
+              abbrev record_made : ℕ → ℕ → List ℕ
+              record_made kind members = put (put (put_mid 1 (1 + more - 1) (v ∷ replicate 15 255) written) 14 kind) 15 members
 
-          pub finds : {set : VertexSet} → told ≡ Some set → Found set
-          unfolding set_of
-          finds {set} z = go sought_low
-            where
-              go : Sought F (2 ^ lowest free) (lowest free) filled told written → Found set
-              go (nowhere t b n) = absurd (some_none z t)
-              go (found {ys = ys} w x t b) = record {
-                ys = ys;
-                completes = w;
-                leftmost = x;
-                set_is = some_same (sym z ∙ t) ∙ ap (λ (s : ℕ). record { 0 = s }) (omega arith);
-                written_is = b;
-              }
+              record_is : (ys : List ℕ) {kind members : ℕ} → Completes F (2 ^ lowest free) (lowest free) ys → written ≡ ys ++ drop (length ys) filled → kind ≡ kind_of (graph_of p) (v ∷ [])
+                  → members ≡ worth_of (member_worth (graph_of p)) p.size (set_of (lowest free ∷ ys)) → record_made kind members ≡ record_of (graph_of p) (lowest free ∷ ys)
+              record_is ys {kind} {members} w b k m =
+                  let g = graph_of p in
+                  let x = exchange ys w in
+                  let few = fits_few (small_fits (fits_size p c.fits)) x in
+                  let inside : length ys ≤ 1 + more - 1 = omega (arith, short ys w, more_is ∙ ap (λ (u : ℕ). more_by (ltb u p.altruists) l.cycle l.chain) low) in
+                  ap (λ (l : List ℕ). put (put l 14 kind) 15 members)
+                  (ap (put_mid 1 (1 + more - 1) (v ∷ replicate 15 255)) b ∙ rw (filled_is, low) (vertices_written (lowest free) ys inside (omega (arith, more_le more_is)) few))
+                  ∙ record_written g (lowest free ∷ ys) few (k ∙ rw low (kind_alone g (lowest free) ys)) (m ∙ list_worth (member_worth g) p.size (lowest free ∷ ys) (exchange_distinct g x) (exchange_below g x))
 
-          pub one_taken : {set : VertexSet} (f : Found set) {taken : Taken} → taken ≡ record { set = set; bytes = record_of (graph_of p) (lowest free ∷ f.ys) } → Stepped (graph_of p) F (Some taken)
-          one_taken f e = first {ys = f.ys} f.completes f.leftmost (ap (λ (t : Taken). Some t) (e ∙ ap (λ (s : VertexSet). record { set = s; bytes = record_of (graph_of p) (lowest free ∷ f.ys) }) f.set_is))
-
-          -- the record as the code writes it: filled up, its vertices from the first on, its kind and its members
-          module _ {more : ℕ} (more_is : more ≡ more_by (ltb v p.altruists) l.cycle l.chain) (filled_is : filled ≡ mid_of 1 (1 + more - 1) (v ∷ replicate 15 255)) where
-            pub record_is : {set : VertexSet} (f : Found set) {kind members : ℕ} → kind ≡ kind_of (graph_of p) (v ∷ [])
-                → members ≡ worth_of (member_worth (graph_of p)) p.size set.0
-                → put (put (put_mid 1 (1 + more - 1) (v ∷ replicate 15 255) written) 14 kind) 15 members ≡ record_of (graph_of p) (lowest free ∷ f.ys)
-            record_is {set} f {kind} {members} k m =
-                let g = graph_of p in
-                let x = exchange f.ys f.completes in
-                let few = fits_few (small_fits (fits_size p c.fits)) x in
-                let inside : length f.ys ≤ 1 + more - 1 = omega (arith, short f.ys f.completes, more_is ∙ ap (λ (u : ℕ). more_by (ltb u p.altruists) l.cycle l.chain) low) in
-                ap (λ (l : List ℕ). put (put l 14 kind) 15 members)
-                (ap (put_mid 1 (1 + more - 1) (v ∷ replicate 15 255)) f.written_is ∙ rw (filled_is, low) (vertices_written (lowest free) f.ys inside (omega (arith, more_le more_is)) few))
-                ∙ record_written g (lowest free ∷ f.ys) few (k ∙ rw low (kind_alone g (lowest free) f.ys))
-                (m ∙ ap (λ (s : VertexSet). worth_of (member_worth g) p.size s.0) f.set_is ∙ list_worth (member_worth g) p.size (lowest free ∷ f.ys) (exchange_distinct g x) (exchange_below g x))
+              pub one_taken : {set : VertexSet} {kind members : ℕ} → told ≡ Some set → kind ≡ kind_of (graph_of p) (v ∷ []) → members ≡ worth_of (member_worth (graph_of p)) p.size set.0
+                  → Clean (free - 2 ^ lowest free) dead' × Stepped (graph_of p) F (Some (record { set = set; bytes = record_made kind members }))
+              unfolding set_of
+              one_taken {set} {kind} {members} z k m = (still_clean clean kept, go sought_low)
+                where
+                  go : Sought F (2 ^ lowest free) (lowest free) filled told written → Stepped (graph_of p) F (Some (record { set = set; bytes = record_made kind members }))
+                  go (nowhere t b n) = absurd (some_none z t)
+                  go (found {ys = ys} w x t b) =
+                      let set_is : set ≡ record { 0 = set_of (lowest free ∷ ys) } = some_same (sym z ∙ t) ∙ ap (λ (s : ℕ). record { 0 = s }) (omega arith) in
+                      let bytes_are = record_is ys w b k (m ∙ ap (λ (s : VertexSet). worth_of (member_worth (graph_of p)) p.size s.0) set_is) in
+                      first {ys = ys} w x (ap₂ (λ (s : VertexSet) (r : List ℕ). Some (record { set = s; bytes = r })) set_is bytes_are)

@@ -1,9 +1,7 @@
-use mathlib.Core.Path.{refl, ap, ◌∙◌}
+use mathlib.Core.Path.{refl, ◌∙◌}
 use native.Mathlib.Omega.{arith}
-use mathlib.Core.List.{List}
-use Prim.Native.Nat.{ℕ}
 use Rattle.clearing.proofs.Seek.{has_with}
-use Rattle.clearing.proofs.StepCode.{first_lt, small, exchanges_long, best_long, part_long, starts, still_clean, none_taken, finds, one_taken, record_is}
+use Rattle.clearing.proofs.StepCode.{first_lt, small, exchanges_long, best_long, part_long, starts, none_taken, one_taken}
 use Rattle.clearing.proofs.choice.Choice.take_exchange.Goals as goal
 
 pub goal_from-requires : goal.goal_from-requires
@@ -31,19 +29,16 @@ seek-requires c =
 pub returns-in_err-set : goal.returns-in_err-set
 returns-in_err-set c =
     let r = c.requires in
-    let k = c.args.self.now.choosing in
-    record {
-      clean = still_clean k r.some r.inside c.lowest-first.ensures c.goal_from.ensures c.with.ensures r.clean c.seek.ensures.kept;
-      stepped = rw c.from_residual.ensures (none_taken k r.some r.inside c.lowest-first.ensures c.goal_from.ensures c.with.ensures c.seek.ensures.sought c.in_err-set.was);
-    }
+    let e = c.seek.ensures in
+    let (clean, stepped) = none_taken c.args.self.now.choosing r.some r.inside c.lowest-first.ensures c.goal_from.ensures c.with.ensures r.clean e.kept e.sought c.in_err-set.was c.from_residual.ensures in
+    record { clean = clean; stepped = stepped }
 
 pub returns : goal.returns
 returns c =
     let r = c.requires in
-    let k = c.args.self.now.choosing in
-    let f = finds k r.some r.inside c.lowest-first.ensures c.goal_from.ensures c.with.ensures c.seek.ensures.sought c.in_ok-set.was in
-    let written = record_is k r.some r.inside c.lowest-first.ensures c.goal_from.ensures c.with.ensures c.seek.ensures.sought c.more_from.ensures refl f (c.byte.ensures ∙ c.kind_of.ensures) c.members_in.ensures in
-    record {
-      clean = still_clean k r.some r.inside c.lowest-first.ensures c.goal_from.ensures c.with.ensures r.clean c.seek.ensures.kept;
-      stepped = one_taken k r.some r.inside c.lowest-first.ensures c.goal_from.ensures c.with.ensures c.seek.ensures.sought f (ap (λ (l : List ℕ). record { set = c.in_ok-set.set; bytes = l }) written);
-    }
+    let e = c.seek.ensures in
+    let (clean, stepped) =
+    one_taken c.args.self.now.choosing r.some r.inside c.lowest-first.ensures c.goal_from.ensures c.with.ensures r.clean e.kept e.sought c.more_from.ensures refl
+    c.in_ok-set.was (c.byte.ensures ∙ c.kind_of.ensures) c.members_in.ensures
+    in
+    record { clean = clean; stepped = stepped }

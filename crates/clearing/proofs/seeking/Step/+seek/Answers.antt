@@ -4,11 +4,12 @@ use native.Mathlib.Omega.{arith}
 use borrow.Author.Rules.{rules}
 use borrow.Rule.Slice.PartMut.{put_mid, same_len_mid}
 use lib.ListN.{length}
-use Rattle.clearing.proofs.Seek.{path_le, next_lt, has_with, opens, ended, room, deeper_falls, deeper, kept_there, found_there, none_there, onward_falls}
+use Rattle.kep.proofs.Parts.{part_le}
+use Rattle.clearing.proofs.Seek.{next_lt, has_with, opens, ended, room, deeper_falls, deeper, kept_there, found_there, none_there, onward_falls}
 use Rattle.clearing.proofs.seeking.Step.+seek.Goals as goal
 
 pub open_at-left-requires : goal.open_at-left-requires
-open_at-left-requires t c = path_le c.args.self.now.few c.requires
+open_at-left-requires t c = part_le c.requires.part
 
 pub loop-left-init : goal.loop-left-init
 loop-left-init t c =
@@ -61,7 +62,7 @@ loop-left-preserved t c =
     none_there c.args.self.now.few c.loop-left.invariant c.loop-left-test.true c.lowest-v.ensures c.with.ensures e.sought c.without-left.ensures c.in_default.is c.seek.array_long e.dead e.kept
 
 pub end_at-requires : goal.end_at-requires
-end_at-requires t c = path_le c.args.self.now.few c.requires
+end_at-requires t c = part_le c.requires.part
 
 pub invariant_of-longer : goal.invariant_of-longer
 invariant_of-longer t c = record { ends_there = has_with c.args.path.set.0 c.lowest-v.result c.with.ensures (search rules) (next_lt c.args.self.now.few c.loop-left.invariant c.loop-left-test.true c.lowest-v.ensures) }
