@@ -3,12 +3,12 @@ use mathlib.Core.Bool.{Bool, true, false}
 use mathlib.Core.List.{List, [], ◌∷◌, ◌++◌}
 use mathlib.Core.Path.{◌≡◌, refl, sym, ap, ap₂, ◌∙◌}
 use mathlib.Core.Logic.{◌≢◌, ◌⊎◌, inl, inr, ⊎_elim}
-use Prim.Native.Nat.{ℕ, zero, suc, ◌+◌, ◌-◌, ◌*◌, ◌/◌, ◌^◌, ◌≤◌, ◌<◌}
+use Prim.Native.Nat.{ℕ, zero, suc, ◌-◌, ◌*◌, ◌/◌, ◌^◌, ◌≤◌, ◌<◌}
 use native.Mathlib.Omega.{arith}
-use lib.Dec.{T, leb, le→leb, leb→le}
+use lib.Dec.{T, leb, le→leb}
 use lib.ListN.{length, drop, length-append, length-drop}
 use lib.Pow.{pow_mono}
-use lib.Seq.{take-append-le, drop-append-le, length-take-le, take-length, paste}
+use lib.Seq.{take-append-le, drop-append-le}
 use borrow.Author.Tests.{eq-eqb, ne_eqb, le-leb, lt-leb}
 use Rattle.pool.specs.declared.value.Pool.{Pool}
 use Rattle.pool.specs.declared.limits.Limits.{Limits}
@@ -30,7 +30,7 @@ use Rattle.kep.proofs.Answer.{answer_legal}
 use Rattle.kep.proofs.ExchangeFacts.{small_fits}
 use Rattle.clearing.proofs.ChoosingCode.{form_length}
 use Rattle.report.specs.Text.{served_line, refused_line, record_lines, plan_text, outcome_text, limits_in, printed, whole_text, TextAnswer, whole, too_short, told_of, left_of}
-use Rattle.report.specs.inner.Writing.{Adds, cleared_text}
+use Rattle.report.specs.inner.Writing.{cleared_text}
 
 -- ---- a pool file and limits of any length
 
@@ -139,9 +139,6 @@ module _ (p : Pool) (l : Limits) (fits : T (pool_fits p)) {count records : ℕ} 
 
 -- ---- the text in the caller's buffer
 
-pub text_length : {room : ℕ} {old new text : List ℕ} {end : ℕ} → Adds room old new 0 end text → end ≡ length text
-text_length {new = new} {end = end} x = sym (length-take-le end new x.inside) ∙ ap length x.added
-
 -- what the call promises of a text
 abbrev pub Reports : List ℕ → List ℕ → TextAnswer → List ℕ → Type 0
 Reports text out told left = (told ≡ told_of text (length out)) × ((left ≡ left_of text out) × (length text ≤ 1024))
@@ -150,24 +147,8 @@ module _ (text out : List ℕ) (short : length text ≤ 1024) where
   pub no_room : length out < length text → Reports text out too_short out
   no_room h = (rw (lt-leb (length text) (length out) h, told_of), (rw (lt-leb (length text) (length out) h, left_of), short))
 
-  pub room : {word new : List ℕ} {end : ℕ} → length text ≤ length out → word ≡ text → end ≡ length text → new ≡ paste out 0 word (length word)
-      → Reports text out (whole end) new
-  room h e f g =
-      let front : 0 + length text ≡ length text = omega arith in (
-        ap whole f ∙ rw (le-leb (length text) (length out) h, told_of),
-        (
-          g
-              ∙ ap (λ w. paste out 0 w (length w)) e
-              ∙ ap₂ (λ w k. w ++ drop k out) (take-length text) front
-              ∙ rw (le-leb (length text) (length out) h, left_of),
-          short,
-        ),
-      )
-
--- what is told to stand there has room there
-pub told_inside : (text : List ℕ) (room : ℕ) {end : ℕ} → whole end ≡ told_of text room → end ≤ room
-told_inside text room {end} = go (leb (length text) room) (λ t. leb→le (length text) room t)
-  where
-    go : (b : Bool) → (T b → length text ≤ room) → whole end ≡ elim b as (λ _. TextAnswer) [ true ↦ whole (length text) | false ↦ too_short ] → end ≤ room
-    go true h e = let same : end ≡ length text = cc in omega (arith, h tt)
-    go false h e = let never : ◌≡◌ {A = ℕ} 0 1 = cc in absurd (omega arith)
+  pub room : {word new : List ℕ} → length text ≤ length out → word ≡ text → new ≡ word ++ drop (length word) out → Reports text out (whole (length word)) new
+  room h e f = (
+    ap (λ w. whole (length w)) e ∙ rw (le-leb (length text) (length out) h, told_of),
+    (f ∙ ap (λ w. w ++ drop (length w) out) e ∙ rw (le-leb (length text) (length out) h, left_of), short),
+  )

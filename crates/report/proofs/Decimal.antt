@@ -1,12 +1,10 @@
 -- Numbers in base ten: one digit, or the digits of a tenth and one more.
-use mathlib.Core.Bool.{true, false}
-use mathlib.Core.List.{List, [], ◌∷◌, ◌++◌}
+use mathlib.Core.List.{[], ◌∷◌, ◌++◌}
 use mathlib.Core.Path.{◌≡◌, sym, ap, ◌∙◌}
 use Prim.Native.Nat.{ℕ, zero, suc, ◌+◌, ◌/◌, ◌%◌, ◌≤◌, ◌<◌}
 use native.Mathlib.Omega.{arith}
 use native.Mathlib.Decide.{dec_le}
-use lib.Dec.{leb}
-use borrow.Author.Tests.{lt-ltb, le-ltb, le-leb, lt-leb}
+use borrow.Author.Tests.{lt-ltb, le-ltb}
 use Rattle.report.specs.Text.{digits, decimal}
 
 digits_one : (k n : ℕ) → n < 10 → digits (suc k) n ≡ (48 + n) ∷ []
@@ -34,36 +32,3 @@ decimal_one n h = digits_one n n h
 pub decimal_more : (n : ℕ) → 10 ≤ n → decimal n ≡ decimal (n / 10) ++ ((48 + n % 10) ∷ [])
 unfolding decimal
 decimal_more n h = digits_more n n h ∙ ap (λ l. l ++ ((48 + n % 10) ∷ [])) (digits_any n (suc (n / 10)) (n / 10) (omega arith) (omega arith))
-
--- a number below a thousand: the first two digits where they are needed, and the last
-abbrev pub hundreds : ℕ → List ℕ
-hundreds n = elim (leb 100 n) [ true ↦ (48 + n / 100) ∷ [] | false ↦ [] ]
-
-abbrev pub tens : ℕ → List ℕ
-tens n = elim (leb 10 n) [ true ↦ (48 + n / 10 % 10) ∷ [] | false ↦ [] ]
-
-pub three_digits : (n : ℕ) → n < 1000 → hundreds n ++ tens n ++ ((48 + n % 10) ∷ []) ≡ decimal n
-three_digits n h = elim (dec_le 100 n) [ yes big ↦ all big | no less ↦ elim (dec_le 10 n) [ yes ten ↦ two less ten | no one ↦ single one ] ]
-  where
-    Said : Type 0
-    Said = hundreds n ++ tens n ++ ((48 + n % 10) ∷ []) ≡ decimal n
-
-    single : (10 ≤ n → ⊥) → Said
-    single l =
-        let same : n % 10 ≡ n = omega arith in
-        rw (lt-leb 100 n (omega arith), hundreds, lt-leb 10 n (omega arith), tens, same) (sym (decimal_one n (omega arith)))
-
-    two : (100 ≤ n → ⊥) → 10 ≤ n → Said
-    two l t =
-        let same : n / 10 % 10 ≡ n / 10 = omega arith in
-        rw (lt-leb 100 n (omega arith), hundreds, le-leb 10 n t, tens, same)
-        (sym (decimal_more n t ∙ ap (λ d. d ++ ((48 + n % 10) ∷ [])) (decimal_one (n / 10) (omega arith))))
-
-    all : 100 ≤ n → Said
-    all b =
-        let same : n / 100 ≡ n / 10 / 10 = omega arith in
-        rw (le-leb 100 n b, hundreds, le-leb 10 n (omega arith), tens, same)
-        (sym
-        (decimal_more n (omega arith)
-        ∙ ap (λ d. d ++ ((48 + n % 10) ∷ []))
-        (decimal_more (n / 10) (omega arith) ∙ ap (λ d. d ++ ((48 + n / 10 % 10) ∷ [])) (decimal_one (n / 10 / 10) (omega arith)))))

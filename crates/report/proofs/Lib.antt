@@ -1,5 +1,6 @@
-pub mod Adding
+pub mod Pushing
 pub mod Decimal
 pub mod LineLaws
 pub mod Spots
 pub mod Composing
+pub mod Lengths

@@ -1,17 +1,19 @@
 -- The lines, piece by piece, as loops write them.
+use mathlib.Core.Bool.{Bool, true, false, not, cond}
 use mathlib.Core.List.{List, [], ◌∷◌, ◌++◌}
-use mathlib.Core.Path.{◌≡◌, ap, ◌∙◌}
+use mathlib.Core.Path.{◌≡◌, refl, sym, ap, ◌∙◌}
 use mathlib.Core.Logic.{◌≢◌}
-use Prim.Native.Nat.{ℕ, suc, ◌+◌, ◌-◌, ◌*◌, ◌≤◌, ◌<◌}
+use Prim.Native.Nat.{ℕ, zero, suc, ◌+◌, ◌≤◌, ◌<◌}
 use native.Mathlib.Omega.{arith}
-use lib.ListN.{length, drop, get_or}
+use lib.Dec.{eqb}
+use lib.ListN.{length, take, drop, get_or}
 use borrow.Author.Tests.{eq-eqb, ne_eqb}
+use Rattle.std.specs.Simd.{first_chunks}
+use Rattle.std.specs.List.{take_while}
+use Rattle.std.proofs.lemmas.List.{at_drop_more}
+use Rattle.std.proofs.lemmas.List.Sums.{take_while-cons}
 use Rattle.kep.specs.Lists.{cut}
-use Rattle.kep.proofs.Cut.{cut_from, cut_none}
-use Rattle.kep.proofs.Rest.{rest_next, rest_none}
 use Rattle.plans.specs.Check.{listed}
-use Rattle.plans.specs.Record.{record_at}
-use Rattle.plans.proofs.Records.{listed_filler, listed_vertex}
 use Rattle.report.specs.Text.{kind_word, place_text, places_text, record_line, record_lines}
 
 -- ---- the kind
@@ -24,44 +26,32 @@ pub ring_word : (kind : ℕ) → kind ≢ 67 → 114 ∷ 105 ∷ 110 ∷ 103 ∷
 unfolding kind_word
 ring_word kind n = rw (ne_eqb kind 67 n, kind_word)
 
--- ---- the places that are listed from byte i on
+-- ---- the places of a record
 
-abbrev pub places_from : List ℕ → ℕ → List ℕ
-places_from bytes i = places_text (listed (drop i bytes))
+-- those that are listed stand before the first filler
+pub listed_front : (bytes : List ℕ) → take_while (λ b. not (eqb b 255)) bytes ≡ listed bytes
+unfolding listed
+listed_front [] = refl
+listed_front (b ∷ bs) = take_while-cons (λ b. not (eqb b 255)) b bs ∙ go (eqb b 255) (listed_front bs)
+  where
+    go : (t : Bool) → take_while (λ b. not (eqb b 255)) bs ≡ listed bs
+        → cond (not t) (b ∷ take_while (λ b. not (eqb b 255)) bs) [] ≡ elim t as (λ _. List ℕ) [ true ↦ [] | false ↦ b ∷ listed bs ]
+    go true e = refl
+    go false e = ap (λ l. b ∷ l) e
 
-module _ (bytes : List ℕ) (i : ℕ) where
-  pub places_end : length bytes ≤ i → places_from bytes i ≡ []
-  unfolding listed places_text
-  places_end h = ap (λ bs. places_text (listed bs)) (rest_none bytes i h)
+pub places_next : (places : List ℕ) (i place : ℕ) → (i < length places) × (place ≡ get_or places i place)
+    → places_text (drop i places) ≡ place_text place ++ places_text (drop (i + 1) places)
+unfolding places_text
+places_next places i place h = at_drop_more places_text places i place h.0 ∙ ap (λ v. place_text v ++ places_text (drop (i + 1) places)) (sym h.1)
 
-  module _ (h : i < length bytes) where
-    from_here : places_from bytes i ≡ places_text (listed (get_or bytes i 0 ∷ drop (i + 1) bytes))
-    from_here = ap (λ bs. places_text (listed bs)) (rest_next bytes i h)
+-- ---- the lines of records
 
-    pub places_stop : get_or bytes i 0 ≡ 255 → places_from bytes i ≡ []
-    unfolding places_text
-    places_stop e = from_here ∙ ap places_text (listed_filler (get_or bytes i 0) (drop (i + 1) bytes) e)
+pub lines_next : (records : List (List ℕ)) (i : ℕ) → i < length records → record_lines (drop i records) ≡ record_line (get_or records i []) ++ record_lines (drop (i + 1) records)
+unfolding record_lines
+lines_next records i h = at_drop_more record_lines records i [] h
 
-    pub places_next : get_or bytes i 0 ≢ 255 → places_from bytes i ≡ place_text (get_or bytes i 0) ++ places_from bytes (i + 1)
-    unfolding places_text
-    places_next n = from_here ∙ ap places_text (listed_vertex (get_or bytes i 0) (drop (i + 1) bytes) n)
-
--- ---- the lines of the records from record k on
-
-abbrev pub lines_from : List ℕ → ℕ → ℕ → List ℕ
-lines_from plan records k = record_lines (cut 16 (records - k) (drop (16 * k) plan))
-
-pub lines_start : (plan : List ℕ) (records : ℕ) → lines_from plan records 0 ≡ record_lines (cut 16 records plan)
-lines_start plan records = let all : records - 0 ≡ records = omega arith in ap (λ k. record_lines (cut 16 k plan)) all
-
-module _ (plan : List ℕ) (records k : ℕ) where
-  pub lines_end : records ≤ k → lines_from plan records k ≡ []
-  unfolding record_lines
-  lines_end h = ap record_lines (cut_none 16 records k (drop (16 * k) plan) (omega arith))
-
-  pub lines_next : k < records → lines_from plan records k ≡ record_line (record_at plan k) ++ lines_from plan records (k + 1)
-  unfolding record_lines
-  lines_next h =
-      let next : suc k ≡ k + 1 = omega arith in
-      ap record_lines (cut_from 16 records k plan h)
-      ∙ ap (λ j. record_line (record_at plan k) ++ lines_from plan records j) next
+pub lines_cut : (k m : ℕ) (bytes : List ℕ) → k ≤ m → take k (first_chunks 16 m bytes) ≡ cut 16 k bytes
+unfolding cut
+lines_cut zero m bytes h = refl
+lines_cut (suc k) zero bytes h = absurd (omega arith)
+lines_cut (suc k) (suc m) bytes h = ap (λ rs. take 16 bytes ∷ rs) (lines_cut k m (drop 16 bytes) (omega arith))

@@ -2,8 +2,7 @@
 #![tactic(auto)]
 
 mod lines;
-mod numbers;
 mod reporting;
-mod writing;
+mod text;
 
 pub use reporting::{COUNTED, Reported, report};

@@ -1,11 +1,11 @@
 // From the bytes of the two files to the whole text.
-ghost use Rattle.std.specs.Prelude.{◌≡◌, ◌≤◌, T, length};
+ghost use Rattle.std.specs.Prelude.{◌≡◌, ◌≤◌, ◌<◌, T, IfOk, IfErr, length};
+ghost use Rattle.pool.specs.Refusals.{number_of};
 ghost use Rattle.pool.specs.Value.{pool_fits};
-ghost use Rattle.report.specs.Text.{reported_of, text_of, text_outcome, text_left, whole_text};
-ghost use Rattle.report.specs.inner.Writing.{Adds, cleared_text};
+ghost use Rattle.report.specs.Text.{refused_line, reported_of, text_of, text_outcome, text_left, whole_text};
+ghost use Rattle.report.specs.inner.Writing.{cleared_text};
 
-use crate::lines::{put_records, put_refused, put_served};
-use crate::writing::put;
+use crate::text::Text;
 use clearing::{Cleared, clear_value};
 use pool::{Cause, Limits, Pool, Refusal, Verdict};
 use reading::{PoolRecord, read_pool};
@@ -21,68 +21,83 @@ pub enum Reported {
 // How many bytes of the pool file count as the whole file: two records more than a pool has at most.
 pub const COUNTED: usize = PoolRecord::WIDTH * (PoolRecord::MOST + 2);
 
+// How many sets of places the largest pool has.
+const SETS: usize = 1 << PoolRecord::MOST;
+
+// How many bytes its plan has at most: a record for each place.
+const PLAN: usize = 16 * PoolRecord::MOST;
+
 // Writes the whole text to the front of the buffer, if there is room for all of it; 1024 bytes always are enough.
 pub fn report(pool: &[u8], limits: &[u8], out: &mut [u8]) -> Reported
     ensures length { reported_of result ≡ text_outcome pool.now limits.now (length out.old) }
     ensures text { out.new ≡ text_left pool.now limits.now out.old }
     ensures short { length (text_of pool.now limits.now) ≤ 1024 }
 {
-    let mut end = pool.len();
-    if COUNTED < end {
-        end = COUNTED;
-    }
-    let mut text = [0u8; 1024];
-    let length = compose(&pool[..end], limits, &mut text);
+    let counted = &pool[..pool.len().min(COUNTED)];
+    let text = compose(counted, limits);
+    let words = text.as_bytes();
+    let length = words.len();
     if out.len() < length {
         return Reported::TooShort;
     }
-    put(out, 0, &text[..length]);
+    out[..length].copy_from_slice(words);
     Reported::Length(length)
 }
 
-// The text: a refused pool first, then limits that are not two bytes, then what clearing answers.
-fn compose(pool: &[u8], limits: &[u8], text: &mut [u8]) -> usize
-    requires { length text.old ≡ 1024 }
-    ensures { Adds 1024 text.old text.new 0 result (whole_text pool.now limits.now) }
+// The text: the plan's, or one line that tells the refusal.
+fn compose(pool: &[u8], limits: &[u8]) -> Text
+    ensures { result ≡ whole_text pool.now limits.now }
+{
+    match compose_plan(pool, limits) {
+        Ok(text) => text,
+        Err(refusal) => {
+            let mut text = Text::new();
+            text.push_refused(refusal);
+            text
+        }
+    }
+}
+
+// A refused pool comes first, then limits that are not two bytes, then what clearing answers.
+fn compose_plan(pool: &[u8], limits: &[u8]) -> Result<Text, Refusal>
+    ensures text { IfOk result (λ text. text ≡ whole_text pool.now limits.now) }
+    ensures refusal { IfErr result (λ r. refused_line (number_of r.cause) r.at ≡ whole_text pool.now limits.now) }
+    ensures spot { IfErr result (λ r. r.at < 1000) }
 {
     let read = read_pool(pool);
     let verdict = read.verdict;
     if let Verdict::Refused(refusal) = verdict {
-        return put_refused(text, 0, refusal);
+        return Err(refusal);
     }
-    if limits.len() != 2 {
-        return put_refused(
-            text,
-            0,
-            Refusal {
-                cause: Cause::Limit,
-                at: 0,
-            },
-        );
-    }
-    let value = read.pool;
-    let both = Limits {
-        cycle: limits[0],
-        chain: limits[1],
+    let Some(&[cycle, chain]) = limits.as_array::<2>() else {
+        return Err(Refusal {
+            cause: Cause::Limit,
+            at: 0,
+        });
     };
-    compose_cleared(value, both, text)
+    compose_cleared(read.pool, Limits { cycle, chain })
 }
 
 // The text of a pool that was read, under limits of two bytes.
-fn compose_cleared(value: Pool, limits: Limits, text: &mut [u8]) -> usize
-    requires t { T (pool_fits value) }
-    requires text_len { length text.old ≡ 1024 }
-    ensures { Adds 1024 text.old text.new 0 result (cleared_text value limits) }
+fn compose_cleared(pool: Pool, limits: Limits) -> Result<Text, Refusal>
+    requires { T (pool_fits pool) }
+    ensures text { IfOk result (λ text. text ≡ cleared_text pool limits) }
+    ensures refusal { IfErr result (λ r. refused_line (number_of r.cause) r.at ≡ cleared_text pool limits) }
+    ensures spot { IfErr result (λ r. r.at < 1000) }
 {
-    let mut exchanges = [0u16; 16384];
-    let mut best = [0u32; 16384];
-    let mut plan = [0u8; 224];
-    let cleared = clear_value(value, limits, &mut exchanges, &mut best, &mut plan);
-    match cleared {
+    let mut exchanges = [0u16; SETS];
+    let mut best = [0u32; SETS];
+    let mut plan = [0u8; PLAN];
+    match clear_value(pool, limits, &mut exchanges, &mut best, &mut plan) {
         Cleared::Plan { served, records } => {
-            let end = put_served(text, 0, served, value.size - value.altruists);
-            put_records(text, end, &plan, records)
+            let mut text = Text::new();
+            text.push_plan(
+                served,
+                pool.size - pool.altruists,
+                &plan.as_chunks().0[..records],
+            );
+            Ok(text)
         }
-        Cleared::Refused(refusal) => put_refused(text, 0, refusal),
+        Cleared::Refused(refusal) => Err(refusal),
     }
 }

@@ -1,9 +1,10 @@
-use mathlib.Core.List.{List}
+use mathlib.Core.List.{List, ◌++◌}
 use mathlib.Core.Path.{◌≡◌, sym, ap, ◌∙◌}
-use Prim.Native.Nat.{ℕ, ◌≤◌}
+use Prim.Native.Nat.{ℕ, ◌-◌, ◌/◌, ◌≤◌}
 use native.Mathlib.Omega.{arith}
 use lib.Dec.{T}
-use lib.ListN.{length, replicate, length-replicate}
+use lib.ListN.{length, take, replicate, length-replicate}
+use lib.Seq.{length-take-le}
 use Rattle.clearing.specs.Clearing.{cleared_outcome, clearable_value}
 use Rattle.clearing.specs.computed.Cleared.{clear_outcome, plan_cleared}
 use Rattle.clearing.specs.declared.clearing.Cleared.{Cleared}
@@ -13,9 +14,11 @@ use Rattle.pool.specs.declared.refusal.Refusal.{Refusal}
 use Rattle.pool.specs.declared.value.Pool.{Pool}
 use Rattle.pool.specs.Refusals.{Outcome, number_of}
 use Rattle.pool.specs.Value.{pool_fits}
-use Rattle.report.specs.Text.{refused_line}
-use Rattle.report.specs.inner.Writing.{cleared_text}
-use Rattle.report.proofs.Adding.{then, roomier, said}
+use Rattle.report.specs.Text.{refused_line, served_line, record_lines}
+use Rattle.report.specs.inner.Writing.{cleared_text, pushed}
+use Rattle.report.proofs.LineLaws.{lines_cut}
+use Rattle.report.proofs.Pushing.{whole}
+use Rattle.kep.specs.Lists.{cut}
 use Rattle.report.proofs.Composing.{fitted, only_limits, PlanTold, told_plan, told_refused, records_few, plan_text_lem}
 use Rattle.report.proofs.reporting.compose_cleared.Goals as goal
 
@@ -42,22 +45,29 @@ module _ (p : Pool) (l : Limits) (fits : T (pool_fits p)) where
     told_no : {r : Refusal} → answer ≡ cleared.Refused r → (r.at ≡ 0) × (refused_line (number_of r.cause) r.at ≡ cleared_text p l)
     told_no is = told_refused p l only (sym (ap cleared_outcome is) ∙ outcome)
 
-pub put_records-requires : goal.put_records-requires
-put_records-requires c =
-    let k = c.clear_value-cleared in
-    let (plan, few) = told c.args.value c.args.limits c.requires.t k.ensures.outcome c.in-Plan.is k.ensures.plan k.auto.plan in
-    record { records_in_bounds = omega (arith, length-replicate {A = ℕ} 224 0); records_in_bounds_2 = omega arith }
+pub slice_bounds-push_plan-end : goal.slice_bounds-push_plan-end
+slice_bounds-push_plan-end c =
+    let k = c.clear_value in
+    let (plan, few) = told c.args.pool c.args.limits c.requires k.ensures.outcome c.in-Plan.is k.ensures.plan k.auto.plan in
+    sym (length-take-le c.in-Plan.records c.as_chunks.result.0.now (omega (arith, c.as_chunks.ensures.front_len, k.auto.plan, length-replicate {A = ℕ} 224 0)))
 
-pub put_refused-requires-clause-at_bound : goal.put_refused-requires-clause-at_bound
-put_refused-requires-clause-at_bound c =
-    omega (arith, (told_no c.args.value c.args.limits c.requires.t c.clear_value-cleared.ensures.outcome c.in-Refused.is).0)
+pub returns-in-Plan-clause-text : goal.returns-in-Plan-clause-text
+returns-in-Plan-clause-text c =
+    let k = c.clear_value in
+    let (plan, few) = told c.args.pool c.args.limits c.requires k.ensures.outcome c.in-Plan.is k.ensures.plan k.auto.plan in
+    let records = c.in-Plan.records in
+    let chunks = c.as_chunks.result.0.now in
+    let line = served_line c.in-Plan.served (c.args.pool.size - c.args.pool.altruists) in
+    let enough = length-replicate {A = ℕ} 224 0 in
+    let told_lines : take records chunks ≡ cut 16 records k.new.plan =
+    ap (take records) c.as_chunks.ensures.front ∙ lines_cut records (length k.new.plan / 16) k.new.plan (omega (arith, k.auto.plan, enough)) in
+    let many = length-take-le records chunks (omega (arith, c.as_chunks.ensures.front_len, k.auto.plan, enough)) in
+    whole (omega (arith, c.push_plan.ensures.short, many)) (c.push_plan.ensures.text ∙ ap (λ t. pushed t (line ++ record_lines (take records chunks))) c.new-text.ensures)
+    ∙ ap (λ rs. line ++ record_lines rs) told_lines
+    ∙ plan_text_lem c.args.pool c.args.limits c.requires plan
 
-pub returns-in-Plan : goal.returns-in-Plan
-returns-in-Plan c =
-    let k = c.clear_value-cleared in
-    let (plan, few) = told c.args.value c.args.limits c.requires.t k.ensures.outcome c.in-Plan.is k.ensures.plan k.auto.plan in
-    roomier (omega arith) (said (plan_text_lem c.args.value c.args.limits c.requires.t plan) (then c.put_served-end.ensures c.put_records.ensures))
+pub returns-in-Refused-clause-refusal : goal.returns-in-Refused-clause-refusal
+returns-in-Refused-clause-refusal c = (told_no c.args.pool c.args.limits c.requires c.clear_value.ensures.outcome c.in-Refused.is).1
 
-pub returns-in-Refused : goal.returns-in-Refused
-returns-in-Refused c =
-    roomier (omega arith) (said (told_no c.args.value c.args.limits c.requires.t c.clear_value-cleared.ensures.outcome c.in-Refused.is).1 c.put_refused.ensures)
+pub returns-in-Refused-clause-spot : goal.returns-in-Refused-clause-spot
+returns-in-Refused-clause-spot c = omega (arith, (told_no c.args.pool c.args.limits c.requires c.clear_value.ensures.outcome c.in-Refused.is).0)
