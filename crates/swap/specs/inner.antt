@@ -1,2 +1,3 @@
 -- What only inner contracts and proofs use: nothing here has to be believed.
-pub mod Counts
+pub mod Reading
+pub mod Retrying

@@ -18,7 +18,7 @@ front_with d k n old new within fits =
 
 pub loop-done-preserved : goal.loop-done-preserved
 loop-done-preserved g c =
-    let told = c.in-Ok.ensures in
+    let told = c.in_ok-more.ensures in
     record {
       inside = search rules;
       bytes = subst (Consumes _ _) (front_with _ _ _ c.loop-done.buffer _ c.loop-done.invariant.inside told.bound.0) (Consumes-trans _ _ _ _ _ c.loop-done.invariant.bytes told.bytes.0);
