@@ -1,0 +1,97 @@
+// The operations, each with the answer that it tells.
+use crate::input::read_full;
+use clearing::{Cleared, clear_value};
+use plans::record;
+use pool::{Limits, LimitsAnswer, Pool, Refusal};
+use sets::VertexSet;
+use std::io;
+use std::io::Read;
+
+// How many places the largest pool has.
+const PLACES: usize = 14;
+
+// How many sets of them there are.
+const SETS: usize = 1 << PLACES;
+
+// How many bytes their plan has at most: a record for each place.
+const PLAN: usize = 16 * PLACES;
+
+pub(crate) fn try_set(rt: &impl Print, set: VertexSet, v: u8) -> io::Result<()> {
+    let (with, without) = (set.with(v).0, set.without(v).0);
+    let has = u8::from(set.has(v));
+    println!(rt;
+        "{}\n{}\n{with}\n{without}\n{has}",
+        set.lowest(),
+        set.size()
+    )
+}
+
+pub(crate) fn try_limits(rt: &impl Print, cycle: u8, chain: u8) -> io::Result<()> {
+    let answer = Limits::new(cycle, chain);
+    match answer {
+        LimitsAnswer::Accepted(limits) => println!(rt; "0\n{}\n{}", limits.cycle, limits.chain),
+        LimitsAnswer::Refused(refusal) => say_refused(rt, refusal),
+    }
+}
+
+pub(crate) fn try_record(
+    rt: &impl Print,
+    input: &mut impl Read,
+    length: u16,
+    k: usize,
+) -> io::Result<()> {
+    let mut plan = [0u8; 256];
+    read_full(input, &mut plan)?;
+    let n = plan.len().min(usize::from(length));
+    let part = record(&plan[..n], k);
+    println!(rt; "{}", part.len())?;
+    say_all(rt, part)
+}
+
+// Clears a pool value that stands on standard input.
+pub(crate) fn clear_next(rt: &impl Print, input: &mut impl Read, limits: Limits) -> io::Result<()> {
+    let mut exchanges = [0u16; SETS];
+    let mut best = [0u32; SETS];
+    let mut plan = [0u8; PLAN];
+    let pool = next_value(input)?;
+    match clear_value(pool, limits, &mut exchanges, &mut best, &mut plan) {
+        Cleared::Plan { served, records } => {
+            println!(rt; "0\n{served}\n{records}")?;
+            say_all(rt, &plan)
+        }
+        Cleared::Refused(refusal) => say_refused(rt, refusal),
+    }
+}
+
+// Places, houses, the sets and the weeks.
+fn next_value(input: &mut impl Read) -> io::Result<Pool> {
+    let mut counts = [0u8; 2];
+    read_full(input, &mut counts)?;
+    let [size, altruists] = counts;
+    let gives = next_numbers(input)?;
+    let weeks = next_numbers(input)?;
+    Ok(Pool {
+        size,
+        altruists,
+        gives,
+        weeks,
+    })
+}
+
+// A number of two bytes for each place.
+fn next_numbers(input: &mut impl Read) -> io::Result<[u16; PLACES]> {
+    let mut numbers = [[0u8; 2]; PLACES];
+    read_full(input, numbers.as_flattened_mut())?;
+    Ok(numbers.map(|bytes| u16::from_le_bytes(bytes)))
+}
+
+fn say_refused(rt: &impl Print, refusal: Refusal) -> io::Result<()> {
+    println!(rt; "{}\n{}", refusal.cause.number(), refusal.at)
+}
+
+fn say_all(rt: &impl Print, bytes: &[u8]) -> io::Result<()> {
+    for byte in bytes {
+        println!(rt; "{byte}")?;
+    }
+    Ok(())
+}
