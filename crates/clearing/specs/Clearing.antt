@@ -1,17 +1,17 @@
 -- Clearing: what its answer stands for, and what is accepted.
-use Rattle.std.specs.Prelude.{Bool, List, [], ◌∷◌, ◌++◌, ℕ, ◌*◌, ◌^◌, leb, length}
+use Rattle.std.specs.Prelude.{Bool, List, [], ◌∷◌, ◌++◌, ℕ, ◌*◌, ◌^◌, leb, length, Result, Ok, Err}
 use Rattle.pool.specs.declared.value.Pool.{Pool}
 use Rattle.pool.specs.declared.limits.Limits.{Limits}
+use Rattle.pool.specs.declared.refusal.Refusal.{Refusal}
 use Rattle.reading.specs.Records.{read_pool}
 use Rattle.pool.specs.Refusals.{number_of, Outcome, accepted, refused, tested, and_then}
 use Rattle.exchanges.specs.ExchangesCall.{exchanges_tests}
 use Rattle.clearing.specs.declared.clearing.Cleared.{Cleared}
-use Rattle.clearing.specs.declared.clearing.Cleared.TheVariants as cleared
 
 -- the members served and the number of records, or the refusal
-abbrev pub cleared_outcome : Cleared → Outcome (ℕ × ℕ)
-cleared_outcome (cleared.Plan served records) = accepted (served, records)
-cleared_outcome (cleared.Refused r) = refused (number_of r.cause) r.at
+abbrev pub cleared_outcome : Result Cleared Refusal → Outcome (ℕ × ℕ)
+cleared_outcome (Ok c) = accepted (c.served, c.records)
+cleared_outcome (Err r) = refused (number_of r.cause) r.at
 
 -- ---- what is accepted
 

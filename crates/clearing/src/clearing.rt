@@ -6,16 +6,17 @@ ghost use Rattle.clearing.specs.Clearing.{cleared_outcome, lent_tests, clearable
 ghost use Rattle.clearing.specs.computed.Cleared.{clear_outcome, exchanges_cleared, best_cleared, plan_cleared};
 
 use crate::choosing::write_plan;
+use crate::chosen_record::WIDTH;
 use exchanges::{fill_exchanges, test_exchanges};
-use pool::{Cause, Limits, Pool, Refusal, Verdict};
+use pool::{Cause, Limits, Pool, Refusal};
 use reading::read_pool;
 use tables::{MEMBER, fill_best};
 
+// The plan in short: the members served, and the number of records written.
 #[derive(Clone, Copy)]
-pub enum Cleared {
-    // The members served, and the number of records written.
-    Plan { served: u8, records: usize },
-    Refused(Refusal),
+pub struct Cleared {
+    pub served: u8,
+    pub records: usize,
 }
 
 // Clears the pool that the bytes hold, or refuses (the causes of reading, and 7 to 10) and leaves all that is lent as it was.
@@ -25,18 +26,13 @@ pub fn clear(
     exchanges: &mut [u16],
     best: &mut [u32],
     plan: &mut [u8],
-) -> Cleared
+) -> Result<Cleared, Refusal>
     ensures outcome { cleared_outcome result ≡ clear_outcome limits (clearable pool.now limits exchanges.old best.old plan.old) }
     ensures exchanges { exchanges.new ≡ exchanges_cleared limits (clearable pool.now limits exchanges.old best.old plan.old) exchanges.old }
     ensures best { best.new ≡ best_cleared limits (clearable pool.now limits exchanges.old best.old plan.old) best.old }
     ensures plan { plan.new ≡ plan_cleared limits (clearable pool.now limits exchanges.old best.old plan.old) plan.old }
 {
-    let read = read_pool(pool);
-    let verdict = read.verdict;
-    if let Verdict::Refused(refusal) = verdict {
-        return Cleared::Refused(refusal);
-    }
-    clear_value(read.pool, limits, exchanges, best, plan)
+    clear_value(read_pool(pool)?, limits, exchanges, best, plan)
 }
 
 // Clears a pool value, or refuses (causes 6 to 10) and leaves all that is lent as it was. All is tested before anything is written.
@@ -46,20 +42,17 @@ pub fn clear_value(
     exchanges: &mut [u16],
     best: &mut [u32],
     plan: &mut [u8],
-) -> Cleared
+) -> Result<Cleared, Refusal>
     ensures outcome { cleared_outcome result ≡ clear_outcome limits (clearable_value pool limits exchanges.old best.old plan.old) }
     ensures exchanges { exchanges.new ≡ exchanges_cleared limits (clearable_value pool limits exchanges.old best.old plan.old) exchanges.old }
     ensures best { best.new ≡ best_cleared limits (clearable_value pool limits exchanges.old best.old plan.old) best.old }
     ensures plan { plan.new ≡ plan_cleared limits (clearable_value pool limits exchanges.old best.old plan.old) plan.old }
 {
-    let verdict = test_lent(pool, limits, exchanges.len(), best.len(), plan.len());
-    if let Verdict::Refused(refusal) = verdict {
-        return Cleared::Refused(refusal);
-    }
-    clear_accepted(pool, limits, exchanges, best, plan)
+    test_lent(pool, limits, exchanges.len(), best.len(), plan.len())?;
+    Ok(clear_accepted(pool, limits, exchanges, best, plan))
 }
 
-// Fills both tables and writes the plan: what is lent has passed all tests.
+// Fills both tables and writes the plan: what is lent has passed all tests, so both filling calls accept it.
 fn clear_accepted(
     pool: Pool,
     limits: Limits,
@@ -68,44 +61,35 @@ fn clear_accepted(
     plan: &mut [u8],
 ) -> Cleared
     requires { accepted pool ≡ clearable_value pool limits exchanges.old best.old plan.old }
-    ensures outcome { cleared_outcome result ≡ clear_outcome limits (accepted pool) }
+    ensures outcome { accepted (result.served, result.records) ≡ clear_outcome limits (accepted pool) }
     ensures exchanges { exchanges.new ≡ exchanges_cleared limits (accepted pool) exchanges.old }
     ensures best { best.new ≡ best_cleared limits (accepted pool) best.old }
     ensures plan { plan.new ≡ plan_cleared limits (accepted pool) plan.old }
 {
-    // Both accept: what they test was tested before.
-    fill_exchanges(pool, limits, exchanges);
-    fill_best(pool, exchanges, best);
-    let records = write_plan(pool, limits, exchanges, best, plan);
-    let all = (1usize << pool.size) - 1;
-    Cleared::Plan {
-        served: (best[all] / MEMBER) as u8,
-        records,
+    fill_exchanges(pool, limits, exchanges).unwrap();
+    let entries = fill_best(pool, exchanges, best).unwrap();
+    Cleared {
+        records: write_plan(pool, limits, exchanges, best, plan),
+        served: (best[entries - 1] / MEMBER) as u8,
     }
 }
 
 // Causes 6 to 10, by the lengths of what is lent.
-fn test_lent(pool: Pool, limits: Limits, exchanges: usize, best: usize, plan: usize) -> Verdict
+fn test_lent(
+    pool: Pool,
+    limits: Limits,
+    exchanges: usize,
+    best: usize,
+    plan: usize,
+) -> Result<(), Refusal>
     ensures { outcome_of result pool ≡ tested (lent_tests pool limits exchanges best plan) 0 (accepted pool) }
 {
-    let verdict = test_exchanges(pool, limits, exchanges);
-    if let Verdict::Refused(refusal) = verdict {
-        return Verdict::Refused(refusal);
+    test_exchanges(pool, limits, exchanges)?;
+    if best < 1usize << pool.size {
+        return Err(Cause::BestTable.into());
     }
-    let size = pool.size;
-    let entries = 1usize << size;
-    let bytes = 16 * (size as usize);
-    if best < entries {
-        return Verdict::Refused(Refusal {
-            cause: Cause::BestTable,
-            at: 0,
-        });
+    if plan < WIDTH * pool.size as usize {
+        return Err(Cause::PlanBuffer.into());
     }
-    if plan < bytes {
-        return Verdict::Refused(Refusal {
-            cause: Cause::PlanBuffer,
-            at: 0,
-        });
-    }
-    Verdict::Accepted
+    Ok(())
 }

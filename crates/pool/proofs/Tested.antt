@@ -5,9 +5,11 @@ use mathlib.Core.Path.{◌≡◌, refl, sym, ap, ◌∙◌}
 use Prim.Native.Nat.{ℕ}
 use native.Mathlib.Omega.{arith}
 use lib.Dec.{T}
+use Rattle.std.specs.Prelude.{Result, Ok, Err}
+use Rattle.pool.specs.declared.refusal.Refusal.{Refusal}
 use Rattle.kep.specs.Lists.{Each, none, also}
 use Rattle.pool.specs.Causes.{Pass}
-use Rattle.pool.specs.Refusals.{Outcome, accepted, refused, tested, and_then}
+use Rattle.pool.specs.Refusals.{Outcome, accepted, refused, outcome, tested, and_then}
 use Rattle.kep.proofs.Tests.{from_true, from_false}
 use Rattle.kep.proofs.Each.{each_first}
 
@@ -40,6 +42,11 @@ module _ {A : Type 0} (n at : ℕ) (a : A) {b found : Bool} (e : found ≡ b) wh
 -- accepting is not refusing
 pub not_both : {A : Type 0} {a : A} {n at : ℕ} → accepted a ≡ refused n at → ⊥
 not_both {a = a} {n = n} {at = at} e = let z : ◌≡◌ {A = ℕ} 0 1 = cc in omega arith
+
+-- a result whose outcome is known to be accepted
+pub accepts : {A : Type 0} (r : Result A Refusal) {a : A} → outcome r ≡ accepted a → r ≡ Ok a
+accepts (Ok b) e = cc
+accepts (Err r) e = absurd (not_both (sym e))
 
 -- what follows the rest follows the tests
 pub tested_then : {A B : Type 0} (ts : List (ℕ × Bool)) (at : ℕ) (o : Outcome A) (f : A → Outcome B) → tested ts at (and_then o f) ≡ and_then (tested ts at o) f

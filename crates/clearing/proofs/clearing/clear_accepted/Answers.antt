@@ -1,18 +1,23 @@
 use mathlib.Core.List.{List}
-use mathlib.Core.Path.{◌≡◌, ap₂}
-use Prim.Native.Nat.{ℕ, ◌*◌, ◌-◌, ◌/◌, ◌%◌, ◌^◌, ◌≤◌}
+use mathlib.Core.Path.{◌≡◌, refl, sym, ap₂, ◌∙◌}
+use Prim.Native.Nat.{ℕ, ◌-◌, ◌/◌, ◌^◌, ◌≤◌}
 use native.Mathlib.Omega.{arith}
 use lib.ListN.{length, get_or}
 use lib.Pow.{pow_pos}
+use Rattle.std.specs.Prelude.{Result, Ok}
 use Rattle.pool.specs.declared.value.Pool.{Pool}
 use Rattle.pool.specs.declared.limits.Limits.{Limits}
-use Rattle.pool.specs.Refusals.{accepted}
+use Rattle.pool.specs.declared.refusal.Refusal.{Refusal}
+use Rattle.pool.specs.Refusals.{accepted, outcome}
 use Rattle.pool.specs.Value.{graph_of}
 use Rattle.kep.specs.Lists.{flat}
 use Rattle.kep.specs.Table.{served, per_member}
-use Rattle.pool.proofs.ValueLaws.{fits_size, entries_are, entries_few}
-use Rattle.tables.specs.Calls.{best_left}
-use Rattle.exchanges.specs.ExchangesCall.{exchanges_left}
+use Rattle.pool.proofs.Tested.{accepts}
+use Rattle.pool.proofs.ValueLaws.{entries_few}
+use Rattle.tables.specs.Calls.{best_outcome, best_left}
+use Rattle.exchanges.specs.ExchangesCall.{exchanges_outcome, exchanges_left}
+use Rattle.exchanges.proofs.ExchangesCall.{passes_all as exchanges_pass, leaves as exchanges_leave}
+use Rattle.tables.proofs.BestCall.{accepted_all as best_accepted}
 use Rattle.clearing.specs.Clearing.{clearable_value}
 use Rattle.clearing.specs.computed.Cleared.{plan_of, exchanges_of, bests_of}
 use Rattle.clearing.specs.inner.Taking.{TablesHold}
@@ -25,29 +30,43 @@ holds : {p : Pool} {l : Limits} {exchanges best plan : List ℕ} → accepted p 
 holds e = passed _ _ _ _ _ e
 
 -- the exchange table is filled, and the best table over it
-module _ {p : Pool} {l : Limits} {exchanges best plan filled bests : List ℕ} (t : Passed p l exchanges best plan)
-    (same : length filled ≡ length exchanges)
-    (first : filled ≡ exchanges_left p l exchanges)
-    (second : bests ≡ best_left p filled best)
-  where
+module _ {p : Pool} {l : Limits} {exchanges best plan : List ℕ} (t : Passed p l exchanges best plan) where
+  exchanges_told : {r : Result ℕ Refusal} → outcome r ≡ exchanges_outcome p l exchanges → r ≡ Ok (2 ^ p.size)
+  exchanges_told e = accepts _ (e ∙ sym (exchanges_leave p l exchanges (exchanges_pass p l (length exchanges) t.fits t.within t.exchanges_long)).0)
+
+  module _ {filled : List ℕ} (same : length filled ≡ length exchanges) (first : filled ≡ exchanges_left p l exchanges) where
     exchanges_are : filled ≡ exchanges_of p l exchanges
     exchanges_are = exchanges_filled p l t.fits exchanges t.within t.exchanges_long first
 
-    bests_are : bests ≡ bests_of p l best
-    bests_are = best_filled p l t.fits exchanges exchanges_are best (omega (arith, t.exchanges_long)) t.best_long second
+    best_told : {r : Result ℕ Refusal} → outcome r ≡ best_outcome p filled best → r ≡ Ok (2 ^ p.size)
+    best_told e = accepts _ (e ∙ sym (best_accepted p filled best t.fits (omega (arith, t.exchanges_long)) t.best_long).0)
 
-    hold : TablesHold p l filled bests
-    hold = filled_hold p l t.fits exchanges exchanges_are best bests_are
+    -- the entries, as that call tells them
+    entries_told : {r : Result ℕ Refusal} {k : ℕ} → outcome r ≡ best_outcome p filled best → r ≡ Ok k → k ≡ 2 ^ p.size
+    entries_told {k = k} e f = let told : ◌≡◌ {A = Result ℕ Refusal} (Ok k) (Ok (2 ^ p.size)) = sym f ∙ best_told e in cc
 
-    -- the best of all, as code looks it up, tells the members served, and they fit a byte
-    told : get_or bests (1 * 2 ^ p.size % 2 ^ 64 - 1) 0 / per_member ≡ served (graph_of p) (flat (plan_of p l))
-    told = rw (entries_are p t.fits) (last_served p l t.fits best bests_are)
+    module _ {bests : List ℕ} (second : bests ≡ best_left p filled best) where
+      bests_are : bests ≡ bests_of p l best
+      bests_are = best_filled p l t.fits exchanges exchanges_are best (omega (arith, t.exchanges_long)) t.best_long second
 
-    few : get_or bests (1 * 2 ^ p.size % 2 ^ 64 - 1) 0 / per_member ≤ 14
-    few = rw (entries_are p t.fits) (last_few p l t.fits best bests_are)
+      hold : TablesHold p l filled bests
+      hold = filled_hold p l t.fits exchanges exchanges_are best bests_are
 
-pub write_plan-records-requires : goal.write_plan-records-requires
-write_plan-records-requires c =
+      -- the best of all, as code looks it up, tells the members served, and they fit a byte
+      told : {entries : ℕ} → entries ≡ 2 ^ p.size → get_or bests (entries - 1) 0 / per_member ≡ served (graph_of p) (flat (plan_of p l))
+      told e = rw e (last_served p l t.fits best bests_are)
+
+      few : {entries : ℕ} → entries ≡ 2 ^ p.size → get_or bests (entries - 1) 0 / per_member ≤ 14
+      few e = rw e (last_few p l t.fits best bests_are)
+
+pub unwrap-requires : goal.unwrap-requires
+unwrap-requires c = let e = exchanges_told (holds c.requires) c.fill_exchanges.ensures.outcome in rw e refl
+
+pub unwrap-entries-requires : goal.unwrap-entries-requires
+unwrap-entries-requires c = let e = best_told (holds c.requires) c.fill_exchanges.auto.table c.fill_exchanges.ensures.left c.fill_best.ensures.outcome in rw e refl
+
+pub write_plan-requires : goal.write_plan-requires
+write_plan-requires c =
     let t = holds c.requires in
     record {
       fitting_pool = t.fits;
@@ -56,20 +75,31 @@ write_plan-records-requires c =
       room = t.plan_long;
     }
 
-pub overflow_shl-all : goal.overflow_shl-all
-overflow_shl-all c = omega (arith, fits_size c.args.pool (holds c.requires).fits)
+pub overflow_sub-result : goal.overflow_sub-result
+overflow_sub-result c =
+    let t = holds c.requires in
+    let entries = entries_told t c.fill_exchanges.auto.table c.fill_exchanges.ensures.left c.fill_best.ensures.outcome c.unwrap-entries.ensures in
+    omega (arith, entries, pow_pos c.args.pool.size)
 
-pub overflow_sub-all : goal.overflow_sub-all
-overflow_sub-all c = rw (entries_are c.args.pool (holds c.requires).fits) (pow_pos c.args.pool.size)
+pub offset_bounds-best-entries : goal.offset_bounds-best-entries
+offset_bounds-best-entries c =
+    let t = holds c.requires in
+    let entries = entries_told t c.fill_exchanges.auto.table c.fill_exchanges.ensures.left c.fill_best.ensures.outcome c.unwrap-entries.ensures in
+    omega (arith, entries, entries_few c.args.pool t.fits)
 
-pub offset_bounds-best-all : goal.offset_bounds-best-all
-offset_bounds-best-all c = let t = holds c.requires in omega (arith, entries_are c.args.pool t.fits, entries_few c.args.pool t.fits)
-
-pub bounds-best-all : goal.bounds-best-all
-bounds-best-all c = let t = holds c.requires in omega (arith, entries_are c.args.pool t.fits, pow_pos c.args.pool.size, c.fill_best.auto.table, t.best_long)
+pub bounds-best-entries : goal.bounds-best-entries
+bounds-best-entries c =
+    let t = holds c.requires in
+    let entries = entries_told t c.fill_exchanges.auto.table c.fill_exchanges.ensures.left c.fill_best.ensures.outcome c.unwrap-entries.ensures in
+    omega (arith, entries, pow_pos c.args.pool.size, c.fill_best.auto.table, t.best_long)
 
 pub overflow_cast-result : goal.overflow_cast-result
-overflow_cast-result c = omega (arith, few (holds c.requires) c.fill_exchanges.auto.table c.fill_exchanges.ensures.left c.fill_best.ensures.left)
+overflow_cast-result c =
+    let t = holds c.requires in
+    let one = c.fill_exchanges.ensures.left in
+    let same = c.fill_exchanges.auto.table in
+    let entries = entries_told t same one c.fill_best.ensures.outcome c.unwrap-entries.ensures in
+    omega (arith, few t same one c.fill_best.ensures.left entries)
 
 pub returns : goal.returns
 returns c =
@@ -77,9 +107,10 @@ returns c =
     let one = c.fill_exchanges.ensures.left in
     let two = c.fill_best.ensures.left in
     let same = c.fill_exchanges.auto.table in
+    let entries = entries_told t same one c.fill_best.ensures.outcome c.unwrap-entries.ensures in
     record {
-      outcome = ap₂ (λ (s r : ℕ). accepted (s, r)) (told t same one two) c.write_plan-records.ensures.records;
-      exchanges = exchanges_are t same one two;
+      outcome = ap₂ (λ (s r : ℕ). accepted (s, r)) (told t same one two entries) c.write_plan.ensures.records;
+      exchanges = exchanges_are t same one;
       best = bests_are t same one two;
-      plan = c.write_plan-records.ensures.written;
+      plan = c.write_plan.ensures.written;
     }
