@@ -26,14 +26,15 @@ impl Answer {
             second,
         }
     }
+}
 
-    pub(crate) fn refused(refusal: Refusal) -> Answer
-        ensures { result ≡ refused_with (number_of refusal.cause) refusal.at }
-    {
-        let cause = refusal.cause;
-        let number = cause.number();
+impl From<Refusal> for Answer {
+    ghost from_gives = { λ refusal answer. answer ≡ refused_with (number_of refusal.cause) refusal.at };
+
+    fn from(refusal: Refusal) -> Answer {
+        let number = refusal.cause.number();
         Answer {
-            number: number as u64,
+            number: u64::from(number),
             at: refusal.at as u64,
             first: 0,
             second: 0,

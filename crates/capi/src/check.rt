@@ -5,7 +5,6 @@ ghost use Rattle.plans.specs.CheckCall.{check_outcome};
 ghost use Rattle.capi.specs.Answers.{count_answer};
 
 use crate::answer::Answer;
-use plans::Checked;
 use pool::Limits;
 
 // Members served by plan bytes that are the record form of a legal plan.
@@ -17,9 +16,8 @@ pub extern "C" fn swap_check(pool: &[u8], lc: u8, lp: u8, plan: &[u8]) -> Answer
         cycle: lc,
         chain: lp,
     };
-    let checked = plans::check(pool, limits, plan);
-    match checked {
-        Checked::Served(served) => Answer::accepted(served as u64, 0),
-        Checked::Refused(refusal) => Answer::refused(refusal),
+    match plans::check(pool, limits, plan) {
+        Ok(served) => Answer::accepted(u64::from(served), 0),
+        Err(refusal) => refusal.into(),
     }
 }

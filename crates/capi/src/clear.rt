@@ -1,12 +1,11 @@
 // Clearing, for C.
 ghost use Rattle.std.specs.Prelude.{◌≡◌};
 ghost use Rattle.pool.specs.Limits.{limits_of};
-ghost use Rattle.clearing.specs.Clearing.{cleared_outcome, clearable};
+ghost use Rattle.clearing.specs.Clearing.{clearable};
 ghost use Rattle.clearing.specs.computed.Cleared.{clear_outcome, exchanges_cleared, best_cleared, plan_cleared};
 ghost use Rattle.capi.specs.Answers.{clear_answer};
 
 use crate::answer::Answer;
-use clearing::Cleared;
 use pool::Limits;
 
 // Members served and records written, of the best plan: most members, then most weeks, then the records that come first.
@@ -28,15 +27,8 @@ pub extern "C" fn swap_clear(
         cycle: lc,
         chain: lp,
     };
-    let cleared = clearing::clear(pool, limits, exchanges, best, plan);
-    answer_cleared(cleared)
-}
-
-fn answer_cleared(cleared: Cleared) -> Answer
-    ensures { result ≡ clear_answer (cleared_outcome cleared) }
-{
-    match cleared {
-        Cleared::Plan { served, records } => Answer::accepted(served as u64, records as u64),
-        Cleared::Refused(refusal) => Answer::refused(refusal),
+    match clearing::clear(pool, limits, exchanges, best, plan) {
+        Ok(cleared) => Answer::accepted(u64::from(cleared.served), cleared.records as u64),
+        Err(refusal) => refusal.into(),
     }
 }

@@ -1,13 +1,13 @@
 // Filling the two tables, for C.
 ghost use Rattle.std.specs.Prelude.{◌≡◌};
 ghost use Rattle.pool.specs.Limits.{limits_of};
-ghost use Rattle.tables.specs.Calls.{best_outcome, best_left, filled_outcome};
+ghost use Rattle.pool.specs.Refusals.{outcome};
+ghost use Rattle.tables.specs.Calls.{best_outcome, best_left};
 ghost use Rattle.exchanges.specs.ExchangesCall.{exchanges_outcome, exchanges_left};
 ghost use Rattle.capi.specs.Answers.{pool_from, count_answer};
 
 use crate::answer::Answer;
-use pool::{Limits, Pool};
-use tables::Filled;
+use pool::{Limits, Pool, Refusal};
 
 // Entries written: the exchange table of a pool value under limits.
 #[unsafe(no_mangle)]
@@ -28,8 +28,7 @@ pub extern "C" fn swap_fill_exchanges(
         cycle: lc,
         chain: lp,
     };
-    let filled = exchanges::fill_exchanges(value, limits, table);
-    answer_filled(filled)
+    answer_filled(exchanges::fill_exchanges(value, limits, table))
 }
 
 // Entries written: the best table of the sets marked in a lent exchange table, which may hold anything.
@@ -46,29 +45,26 @@ pub extern "C" fn swap_fill_best(
     ensures left { table.new ≡ best_left (pool_from places houses gives.now weeks.now) exchanges.now table.old }
 {
     let value = pool_from(places, houses, gives, weeks);
-    let filled = tables::fill_best(value, exchanges, table);
-    answer_filled(filled)
+    answer_filled(tables::fill_best(value, exchanges, table))
 }
 
 // The pool value that C tells by its parts.
 fn pool_from(places: u8, houses: u8, gives: &[u16; 14], weeks: &[u16; 14]) -> Pool
     ensures { result ≡ pool_from places houses gives.now weeks.now }
 {
-    let sets = *gives;
-    let waited = *weeks;
     Pool {
         size: places,
         altruists: houses,
-        gives: sets,
-        weeks: waited,
+        gives: *gives,
+        weeks: *weeks,
     }
 }
 
-fn answer_filled(filled: Filled) -> Answer
-    ensures { result ≡ count_answer (filled_outcome filled) }
+fn answer_filled(filled: Result<usize, Refusal>) -> Answer
+    ensures { result ≡ count_answer (outcome filled) }
 {
     match filled {
-        Filled::Entries(entries) => Answer::accepted(entries as u64, 0),
-        Filled::Refused(refusal) => Answer::refused(refusal),
+        Ok(entries) => Answer::accepted(entries as u64, 0),
+        Err(refusal) => refusal.into(),
     }
 }

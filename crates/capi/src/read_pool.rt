@@ -5,7 +5,7 @@ ghost use Rattle.pool.specs.Refusals.{left_by};
 ghost use Rattle.capi.specs.Answers.{pool_answer};
 
 use crate::answer::Answer;
-use pool::Verdict;
+use pool::Pool;
 
 // Places and houses; gives holds the pool value's sets and weeks its weeks, and both are untouched on a refusal.
 #[unsafe(no_mangle)]
@@ -18,17 +18,18 @@ pub extern "C" fn swap_read_pool(
     ensures gives { gives.new ≡ left_by (read_pool bytes.now) (λ p. p.gives) gives.old }
     ensures weeks { weeks.new ≡ left_by (read_pool bytes.now) (λ p. p.weeks) weeks.old }
 {
-    let read = reading::read_pool(bytes);
-    let p = read.pool;
-    let sets = p.gives;
-    let waited = p.weeks;
-    let verdict = read.verdict;
-    match verdict {
-        Verdict::Accepted => {
+    match reading::read_pool(bytes) {
+        Ok(pool) => {
+            let Pool {
+                size,
+                altruists,
+                gives: sets,
+                weeks: waited,
+            } = pool;
             *gives = sets;
             *weeks = waited;
-            Answer::accepted(p.size as u64, p.altruists as u64)
+            Answer::accepted(u64::from(size), u64::from(altruists))
         }
-        Verdict::Refused(refusal) => Answer::refused(refusal),
+        Err(refusal) => refusal.into(),
     }
 }

@@ -23,7 +23,8 @@ use Rattle.pool.specs.Value.{graph_of, weeks_in}
 use Rattle.tables.specs.Calls.{worth_in}
 use Rattle.plans.specs.Check.{records_in}
 use Rattle.clearing.specs.computed.Cleared.{plan_of}
-use Rattle.report.specs.Text.{kind_word, line_feed, decimal, served_line, places_text, record_line, record_lines, plan_text, outcome_text, limits_in, printed, whole_text, counted, text_of, TextAnswer as Reply, whole, too_short, text_outcome, text_left}
+use Rattle.std.specs.Prelude.{Option, Some, None}
+use Rattle.report.specs.Text.{kind_word, line_feed, decimal, served_line, places_text, record_line, record_lines, plan_text, outcome_text, limits_in, printed, whole_text, counted, text_of, text_outcome, text_left}
 use Rattle.claims.specs.Printed.{limits_tests, exchange_lines, PrintsPlan, number, BaseTen}
 use Rattle.kep.proofs.Tests.{and_iff, eq→eqb}
 use Rattle.kep.proofs.Each.{each_append, each_first}
@@ -118,14 +119,14 @@ module _ (pool limits : List ℕ) where
 -- ---- the call `report`
 
 module _ (pool limits out : List ℕ) where
-  pub text_written : {n : ℕ} → text_outcome pool limits (length out) ≡ whole n
+  pub text_written : {n : ℕ} → text_outcome pool limits (length out) ≡ Some n
       → (n ≡ length (text_of pool limits)) × (take n (text_left pool limits out) ≡ text_of pool limits) × (drop n (text_left pool limits out) ≡ drop n out)
   text_written {n} = go (leb (length text) (length out))
     where
       text : List ℕ
       text = text_of pool limits
 
-      go : (b : Bool) → elim b as (λ _. Reply) [ true ↦ whole (length text) | false ↦ too_short ] ≡ whole n
+      go : (b : Bool) → elim b as (λ _. Option ℕ) [ true ↦ Some (length text) | false ↦ None ] ≡ Some n
           → (n ≡ length text) × (take n (elim b as (λ _. List ℕ) [ true ↦ text ++ drop (length text) out | false ↦ out ]) ≡ text)
           × (drop n (elim b as (λ _. List ℕ) [ true ↦ text ++ drop (length text) out | false ↦ out ]) ≡ drop n out)
       go true e =
@@ -133,11 +134,11 @@ module _ (pool limits out : List ℕ) where
           (same, rw same (take-append_seam text (drop (length text) out)), rw same (drop-append_seam text (drop (length text) out)))
       go false e = let never : ◌≡◌ {A = ℕ} 0 1 = cc in absurd (omega arith)
 
-  pub text_short : text_outcome pool limits (length out) ≡ too_short → (length out < length (text_of pool limits)) × (text_left pool limits out ≡ out)
+  pub text_short : text_outcome pool limits (length out) ≡ None → (length out < length (text_of pool limits)) × (text_left pool limits out ≡ out)
   text_short = go (leb (length (text_of pool limits)) (length out)) (leb-false (length (text_of pool limits)) (length out))
     where
       go : (b : Bool) → (b ≡ false → length out < length (text_of pool limits))
-          → elim b as (λ _. Reply) [ true ↦ whole (length (text_of pool limits)) | false ↦ too_short ] ≡ too_short
+          → elim b as (λ _. Option ℕ) [ true ↦ Some (length (text_of pool limits)) | false ↦ None ] ≡ None
           → (length out < length (text_of pool limits)) × (elim b as (λ _. List ℕ) [ true ↦ text_of pool limits ++ drop (length (text_of pool limits)) out | false ↦ out ] ≡ out)
       go true short e = let never : ◌≡◌ {A = ℕ} 0 1 = cc in absurd (omega arith)
       go false short e = (short refl, refl)

@@ -10,7 +10,8 @@ use Rattle.pool.specs.declared.value.Pool.{Pool}
 use Rattle.pool.specs.Refusals.{accepted, refused}
 use Rattle.pool.specs.Limits.{limits_fit}
 use Rattle.reading.specs.Records.{read_pool}
-use Rattle.report.specs.Text.{decimal, refused_line, outcome_text, limits_in, printed, whole_text, counted, text_of, whole, too_short, text_outcome, text_left}
+use Rattle.std.specs.Prelude.{Some, None}
+use Rattle.report.specs.Text.{decimal, refused_line, outcome_text, limits_in, printed, whole_text, counted, text_of, text_outcome, text_left}
 use Rattle.claims.specs.Printed.{limits_tests, PrintsPlan, BaseTen}
 use Rattle.pool.specs.Causes.{FirstFails}
 use Rattle.claims.proofs.PrintedLaws.{printed_refused_by, printed_accepted_by, plan_printed, text_written, text_short, decimal_base_ten}
@@ -45,10 +46,10 @@ decimal_is_base_ten n = decimal_base_ten n
 
 module _ (pool limits out : List ℕ) where
   -- Where it tells a length, that is the length of the text; the text stands at the front of the buffer, and all behind it is untouched.
-  pub report_writes : {n : ℕ} → text_outcome pool limits (length out) ≡ whole n
+  pub report_writes : {n : ℕ} → text_outcome pool limits (length out) ≡ Some n
       → (n ≡ length (text_of pool limits)) × (take n (text_left pool limits out) ≡ text_of pool limits) × (drop n (text_left pool limits out) ≡ drop n out)
   report_writes e = text_written pool limits out e
 
   -- Where it tells that the room is too short, it is, and the buffer is untouched.
-  pub report_untouched : text_outcome pool limits (length out) ≡ too_short → (length out < length (text_of pool limits)) × (text_left pool limits out ≡ out)
+  pub report_untouched : text_outcome pool limits (length out) ≡ None → (length out < length (text_of pool limits)) × (text_left pool limits out ≡ out)
   report_untouched e = text_short pool limits out e

@@ -1,8 +1,8 @@
 // The operations, each with the answer that it tells.
 use crate::input::read_full;
-use clearing::{Cleared, clear_value};
+use clearing::clear_value;
 use plans::record;
-use pool::{Limits, LimitsAnswer, Pool, Refusal};
+use pool::{Limits, Pool, Refusal};
 use sets::VertexSet;
 use std::io;
 use std::io::Read;
@@ -27,10 +27,9 @@ pub(crate) fn try_set(rt: &impl Print, set: VertexSet, v: u8) -> io::Result<()> 
 }
 
 pub(crate) fn try_limits(rt: &impl Print, cycle: u8, chain: u8) -> io::Result<()> {
-    let answer = Limits::new(cycle, chain);
-    match answer {
-        LimitsAnswer::Accepted(limits) => println!(rt; "0\n{}\n{}", limits.cycle, limits.chain),
-        LimitsAnswer::Refused(refusal) => say_refused(rt, refusal),
+    match Limits::new(cycle, chain) {
+        Ok(limits) => println!(rt; "0\n{}\n{}", limits.cycle, limits.chain),
+        Err(refusal) => say_refused(rt, refusal),
     }
 }
 
@@ -55,11 +54,11 @@ pub(crate) fn clear_next(rt: &impl Print, input: &mut impl Read, limits: Limits)
     let mut plan = [0u8; PLAN];
     let pool = next_value(input)?;
     match clear_value(pool, limits, &mut exchanges, &mut best, &mut plan) {
-        Cleared::Plan { served, records } => {
-            println!(rt; "0\n{served}\n{records}")?;
+        Ok(cleared) => {
+            println!(rt; "0\n{}\n{}", cleared.served, cleared.records)?;
             say_all(rt, &plan)
         }
-        Cleared::Refused(refusal) => say_refused(rt, refusal),
+        Err(refusal) => say_refused(rt, refusal),
     }
 }
 

@@ -29,7 +29,8 @@ use Rattle.kep.specs.Plan.{record_form}
 use Rattle.kep.proofs.Answer.{answer_legal}
 use Rattle.kep.proofs.ExchangeFacts.{small_fits}
 use Rattle.clearing.proofs.ChoosingCode.{form_length}
-use Rattle.report.specs.Text.{served_line, refused_line, record_lines, plan_text, outcome_text, limits_in, printed, whole_text, TextAnswer, whole, too_short, told_of, left_of}
+use Rattle.std.specs.Prelude.{Option, Some, None}
+use Rattle.report.specs.Text.{served_line, refused_line, record_lines, plan_text, outcome_text, limits_in, printed, whole_text, told_of, left_of}
 use Rattle.report.specs.inner.Writing.{cleared_text}
 
 -- ---- a pool file and limits of any length
@@ -140,15 +141,15 @@ module _ (p : Pool) (l : Limits) (fits : T (pool_fits p)) {count records : ℕ} 
 -- ---- the text in the caller's buffer
 
 -- what the call promises of a text
-abbrev pub Reports : List ℕ → List ℕ → TextAnswer → List ℕ → Type 0
+abbrev pub Reports : List ℕ → List ℕ → Option ℕ → List ℕ → Type 0
 Reports text out told left = (told ≡ told_of text (length out)) × ((left ≡ left_of text out) × (length text ≤ 1024))
 
 module _ (text out : List ℕ) (short : length text ≤ 1024) where
-  pub no_room : length out < length text → Reports text out too_short out
+  pub no_room : length out < length text → Reports text out None out
   no_room h = (rw (lt-leb (length text) (length out) h, told_of), (rw (lt-leb (length text) (length out) h, left_of), short))
 
-  pub room : {word new : List ℕ} → length text ≤ length out → word ≡ text → new ≡ word ++ drop (length word) out → Reports text out (whole (length word)) new
+  pub room : {word new : List ℕ} → length text ≤ length out → word ≡ text → new ≡ word ++ drop (length word) out → Reports text out (Some (length word)) new
   room h e f = (
-    ap (λ w. whole (length w)) e ∙ rw (le-leb (length text) (length out) h, told_of),
+    ap (λ w. Some (length w)) e ∙ rw (le-leb (length text) (length out) h, told_of),
     (f ∙ ap (λ w. w ++ drop (length w) out) e ∙ rw (le-leb (length text) (length out) h, left_of), short),
   )

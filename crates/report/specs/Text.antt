@@ -12,8 +12,7 @@ use Rattle.plans.specs.Check.{vertices_of, records_in}
 use Rattle.clearing.specs.computed.Cleared.{plan_of}
 use Rattle.kep.specs.Lists.{flat}
 use Rattle.kep.specs.Plan.{record_form}
-use Rattle.report.specs.declared.reporting.Reported.{Reported}
-use Rattle.report.specs.declared.reporting.Reported.TheVariants as reported
+use Rattle.std.specs.Prelude.{Option, Some, None}
 
 -- ---- characters and words, in ASCII
 
@@ -113,26 +112,16 @@ text_of pool limits = whole_text (counted pool) limits
 
 -- ---- what the call tells and leaves
 
--- the length of the text, or that the room is too short
-pub data TextAnswer : Type 0 where
-  whole : ℕ → TextAnswer
-  too_short : TextAnswer
-
--- what the answer of the call stands for
-abbrev pub reported_of : Reported → TextAnswer
-reported_of (reported.Length n) = whole n
-reported_of reported.TooShort = too_short
-
--- the answer for a text and so much room
-abbrev pub told_of : List ℕ → ℕ → TextAnswer
-told_of text room = elim (leb (length text) room) as (λ _. TextAnswer) [ true ↦ whole (length text) | false ↦ too_short ]
+-- the answer for a text and so much room: its length, or that there is no room for it
+abbrev pub told_of : List ℕ → ℕ → Option ℕ
+told_of text room = elim (leb (length text) room) as (λ _. Option ℕ) [ true ↦ Some (length text) | false ↦ None ]
 
 -- the text at the front of the buffer, if it has room for all of it
 abbrev pub left_of : List ℕ → List ℕ → List ℕ
 left_of text out = elim (leb (length text) (length out)) as (λ _. List ℕ) [ true ↦ text ++ drop (length text) out | false ↦ out ]
 
 -- what the call tells of two files
-abbrev pub text_outcome : List ℕ → List ℕ → ℕ → TextAnswer
+abbrev pub text_outcome : List ℕ → List ℕ → ℕ → Option ℕ
 text_outcome pool limits room = told_of (text_of pool limits) room
 
 -- what it leaves in the buffer

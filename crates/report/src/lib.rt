@@ -5,4 +5,4 @@ mod lines;
 mod reporting;
 mod text;
 
-pub use reporting::{COUNTED, Reported, report};
+pub use reporting::{COUNTED, report};

@@ -2,21 +2,13 @@
 ghost use Rattle.std.specs.Prelude.{◌≡◌, ◌≤◌, ◌<◌, T, IfOk, IfErr, length};
 ghost use Rattle.pool.specs.Refusals.{number_of};
 ghost use Rattle.pool.specs.Value.{pool_fits};
-ghost use Rattle.report.specs.Text.{refused_line, reported_of, text_of, text_outcome, text_left, whole_text};
+ghost use Rattle.report.specs.Text.{refused_line, text_of, text_outcome, text_left, whole_text};
 ghost use Rattle.report.specs.inner.Writing.{cleared_text};
 
 use crate::text::Text;
-use clearing::{Cleared, clear_value};
-use pool::{Cause, Limits, Pool, Refusal, Verdict};
+use clearing::clear_value;
+use pool::{Cause, Limits, Pool, Refusal};
 use reading::{PoolRecord, read_pool};
-
-#[derive(Clone, Copy)]
-pub enum Reported {
-    // How long the text is that stands at the front of the buffer.
-    Length(usize),
-    // The buffer has no room for the whole text.
-    TooShort,
-}
 
 // How many bytes of the pool file count as the whole file: two records more than a pool has at most.
 pub const COUNTED: usize = PoolRecord::WIDTH * (PoolRecord::MOST + 2);
@@ -27,9 +19,9 @@ const SETS: usize = 1 << PoolRecord::MOST;
 // How many bytes its plan has at most: a record for each place.
 const PLAN: usize = 16 * PoolRecord::MOST;
 
-// Writes the whole text to the front of the buffer, if there is room for all of it; 1024 bytes always are enough.
-pub fn report(pool: &[u8], limits: &[u8], out: &mut [u8]) -> Reported
-    ensures length { reported_of result ≡ text_outcome pool.now limits.now (length out.old) }
+// Writes the whole text to the front of the buffer and tells its length, if there is room for all of it; 1024 bytes always are enough.
+pub fn report(pool: &[u8], limits: &[u8], out: &mut [u8]) -> Option<usize>
+    ensures length { result ≡ text_outcome pool.now limits.now (length out.old) }
     ensures text { out.new ≡ text_left pool.now limits.now out.old }
     ensures short { length (text_of pool.now limits.now) ≤ 1024 }
 {
@@ -38,10 +30,10 @@ pub fn report(pool: &[u8], limits: &[u8], out: &mut [u8]) -> Reported
     let words = text.as_bytes();
     let length = words.len();
     if out.len() < length {
-        return Reported::TooShort;
+        return None;
     }
     out[..length].copy_from_slice(words);
-    Reported::Length(length)
+    Some(length)
 }
 
 // The text: the plan's, or one line that tells the refusal.
@@ -64,18 +56,11 @@ fn compose_plan(pool: &[u8], limits: &[u8]) -> Result<Text, Refusal>
     ensures refusal { IfErr result (λ r. refused_line (number_of r.cause) r.at ≡ whole_text pool.now limits.now) }
     ensures spot { IfErr result (λ r. r.at < 1000) }
 {
-    let read = read_pool(pool);
-    let verdict = read.verdict;
-    if let Verdict::Refused(refusal) = verdict {
-        return Err(refusal);
-    }
+    let pool = read_pool(pool)?;
     let Some(&[cycle, chain]) = limits.as_array::<2>() else {
-        return Err(Refusal {
-            cause: Cause::Limit,
-            at: 0,
-        });
+        return Err(Cause::Limit.into());
     };
-    compose_cleared(read.pool, Limits { cycle, chain })
+    compose_cleared(pool, Limits { cycle, chain })
 }
 
 // The text of a pool that was read, under limits of two bytes.
@@ -88,16 +73,12 @@ fn compose_cleared(pool: Pool, limits: Limits) -> Result<Text, Refusal>
     let mut exchanges = [0u16; SETS];
     let mut best = [0u32; SETS];
     let mut plan = [0u8; PLAN];
-    match clear_value(pool, limits, &mut exchanges, &mut best, &mut plan) {
-        Cleared::Plan { served, records } => {
-            let mut text = Text::new();
-            text.push_plan(
-                served,
-                pool.size - pool.altruists,
-                &plan.as_chunks().0[..records],
-            );
-            Ok(text)
-        }
-        Cleared::Refused(refusal) => Err(refusal),
-    }
+    let cleared = clear_value(pool, limits, &mut exchanges, &mut best, &mut plan)?;
+    let mut text = Text::new();
+    text.push_plan(
+        cleared.served,
+        pool.size - pool.altruists,
+        &plan.as_chunks().0[..cleared.records],
+    );
+    Ok(text)
 }

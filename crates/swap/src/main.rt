@@ -7,7 +7,7 @@ mod files;
 
 use failure::Failure;
 use files::{load, write_whole};
-use report::{COUNTED, Reported, report};
+use report::{COUNTED, report};
 use std::io;
 use std::io::ErrorKind;
 use std::process::ExitCode;
@@ -39,8 +39,8 @@ fn run(rt: &(impl Files + Print)) -> Result<(), Failure> {
 fn print(rt: &impl Print, pool: &[u8], limits: &[u8]) -> io::Result<()> {
     let mut text = [0u8; 1024];
     match report(pool, limits, &mut text) {
-        Reported::Length(length) => write_whole(&mut io::writer(rt), &text[..length]),
-        Reported::TooShort => Ok(()),
+        Some(length) => write_whole(&mut io::writer(rt), &text[..length]),
+        None => Ok(()),
     }
 }
 

@@ -5,17 +5,15 @@ use native.Mathlib.Omega.{arith}
 use lib.Dec.{T}
 use lib.ListN.{length, take, replicate, length-replicate}
 use lib.Seq.{length-take-le}
-use Rattle.clearing.specs.Clearing.{cleared_outcome, clearable_value}
+use Rattle.clearing.specs.Clearing.{clearable_value}
 use Rattle.clearing.specs.computed.Cleared.{clear_outcome, plan_cleared}
-use Rattle.clearing.specs.declared.clearing.Cleared.{Cleared}
-use Rattle.clearing.specs.declared.clearing.Cleared.TheVariants as cleared
+use Rattle.std.proofs.lemmas.Result.{err_from_is_err_and}
 use Rattle.pool.specs.declared.limits.Limits.{Limits}
-use Rattle.pool.specs.declared.refusal.Refusal.{Refusal}
 use Rattle.pool.specs.declared.value.Pool.{Pool}
-use Rattle.pool.specs.Refusals.{Outcome, number_of}
+use Rattle.pool.specs.Refusals.{Outcome, accepted}
 use Rattle.pool.specs.Value.{pool_fits}
-use Rattle.report.specs.Text.{refused_line, served_line, record_lines}
-use Rattle.report.specs.inner.Writing.{cleared_text, pushed}
+use Rattle.report.specs.Text.{served_line, record_lines}
+use Rattle.report.specs.inner.Writing.{pushed}
 use Rattle.report.proofs.LineLaws.{lines_cut}
 use Rattle.report.proofs.Pushing.{whole}
 use Rattle.kep.specs.Lists.{cut}
@@ -33,31 +31,34 @@ module _ (p : Pool) (l : Limits) (fits : T (pool_fits p)) where
       let long = length-replicate {A = ℕ} 16384 0 in
       only_limits p l (replicate 16384 0) (replicate 16384 0) (replicate 224 0) fits long long (length-replicate {A = ℕ} 224 0)
 
-  module _ {answer : Cleared} (outcome : cleared_outcome answer ≡ clear_outcome l (found p l)) where
-    -- a plan was told, of at most 14 records
-    told : {served records : ℕ} {plan : List ℕ} → answer ≡ cleared.Plan served records → plan ≡ plan_cleared l (found p l) (replicate 224 0)
-        → length plan ≡ length {A = ℕ} (replicate 224 0) → PlanTold p l served records (replicate 224 0) plan × (records ≤ 14)
-    told is left same =
-        let plan = told_plan p l only (replicate 224 0) (sym (ap cleared_outcome is) ∙ outcome) left in
-        (plan, records_few p l fits plan (same ∙ length-replicate {A = ℕ} 224 0))
+  -- a plan was told, of at most 14 records
+  told : {served records : ℕ} {plan : List ℕ} → accepted (served, records) ≡ clear_outcome l (found p l) → plan ≡ plan_cleared l (found p l) (replicate 224 0)
+      → length plan ≡ length {A = ℕ} (replicate 224 0) → PlanTold p l served records (replicate 224 0) plan × (records ≤ 14)
+  told outcome left same =
+      let plan = told_plan p l only (replicate 224 0) outcome left in
+      (plan, records_few p l fits plan (same ∙ length-replicate {A = ℕ} 224 0))
 
-    -- or a refusal
-    told_no : {r : Refusal} → answer ≡ cleared.Refused r → (r.at ≡ 0) × (refused_line (number_of r.cause) r.at ≡ cleared_text p l)
-    told_no is = told_refused p l only (sym (ap cleared_outcome is) ∙ outcome)
+pub returns-in_err-cleared : goal.returns-in_err-cleared
+returns-in_err-cleared c =
+    let a = c.args in
+    let p = err_from_is_err_and c.from_residual.result c.from_residual.ensures.1 in
+    let no = told_refused a.pool a.limits (only a.pool a.limits c.requires) c.in_err-cleared.ensures.outcome in
+    rw (p.1, p.2) record { text = tt; refusal = no.1; spot = omega (arith, no.0) }
 
 pub slice_bounds-push_plan-end : goal.slice_bounds-push_plan-end
 slice_bounds-push_plan-end c =
     let k = c.clear_value in
-    let (plan, few) = told c.args.pool c.args.limits c.requires k.ensures.outcome c.in-Plan.is k.ensures.plan k.auto.plan in
-    sym (length-take-le c.in-Plan.records c.as_chunks.result.0.now (omega (arith, c.as_chunks.ensures.front_len, k.auto.plan, length-replicate {A = ℕ} 224 0)))
+    let (plan, few) = told c.args.pool c.args.limits c.requires c.in_ok-cleared.ensures.outcome k.ensures.plan k.auto.plan in
+    sym (length-take-le _ c.as_chunks.result.0.now (omega (arith, c.as_chunks.ensures.front_len, k.auto.plan, length-replicate {A = ℕ} 224 0)))
 
-pub returns-in-Plan-clause-text : goal.returns-in-Plan-clause-text
-returns-in-Plan-clause-text c =
+pub returns-clause-text : goal.returns-clause-text
+returns-clause-text c =
     let k = c.clear_value in
-    let (plan, few) = told c.args.pool c.args.limits c.requires k.ensures.outcome c.in-Plan.is k.ensures.plan k.auto.plan in
-    let records = c.in-Plan.records in
+    let cleared = c.in_ok-cleared.cleared in
+    let (plan, few) = told c.args.pool c.args.limits c.requires c.in_ok-cleared.ensures.outcome k.ensures.plan k.auto.plan in
+    let records = cleared.records in
     let chunks = c.as_chunks.result.0.now in
-    let line = served_line c.in-Plan.served (c.args.pool.size - c.args.pool.altruists) in
+    let line = served_line cleared.served (c.args.pool.size - c.args.pool.altruists) in
     let enough = length-replicate {A = ℕ} 224 0 in
     let told_lines : take records chunks ≡ cut 16 records k.new.plan =
     ap (take records) c.as_chunks.ensures.front ∙ lines_cut records (length k.new.plan / 16) k.new.plan (omega (arith, k.auto.plan, enough)) in
@@ -65,9 +66,3 @@ returns-in-Plan-clause-text c =
     whole (omega (arith, c.push_plan.ensures.short, many)) (c.push_plan.ensures.text ∙ ap (λ t. pushed t (line ++ record_lines (take records chunks))) c.new-text.ensures)
     ∙ ap (λ rs. line ++ record_lines rs) told_lines
     ∙ plan_text_lem c.args.pool c.args.limits c.requires plan
-
-pub returns-in-Refused-clause-refusal : goal.returns-in-Refused-clause-refusal
-returns-in-Refused-clause-refusal c = (told_no c.args.pool c.args.limits c.requires c.clear_value.ensures.outcome c.in-Refused.is).1
-
-pub returns-in-Refused-clause-spot : goal.returns-in-Refused-clause-spot
-returns-in-Refused-clause-spot c = omega (arith, (told_no c.args.pool c.args.limits c.requires c.clear_value.ensures.outcome c.in-Refused.is).0)
