@@ -1,7 +1,7 @@
 pub mod RecordLaws
 pub mod Passed
 pub mod Scanning
-pub mod Arcs
+pub mod ForPlaces
 pub mod ReadLaws
 pub mod ReadPool
 pub mod Houses

@@ -4,9 +4,7 @@ ghost use Rattle.pool.specs.Refusals.{outcome};
 ghost use Rattle.reading.specs.Records.{read_pool};
 
 use crate::fields::PoolRecord;
-use crate::records::count_houses;
-use crate::takers::takers;
-use crate::waited::waited;
+use crate::places::Places;
 use pool::{Cause, Pool, Refusal};
 
 // The pool that the bytes hold, or the first refusal.
@@ -21,11 +19,11 @@ pub fn read_pool(bytes: &[u8]) -> Result<Pool, Refusal>
     if PoolRecord::MOST < records.len() {
         return Err(Cause::PoolSize.into());
     }
-    let altruists = count_houses(records)?;
+    let places = Places { records };
     Ok(Pool {
         size: records.len() as u8,
-        altruists,
-        gives: takers(records),
-        weeks: waited(records),
+        altruists: places.count_houses()?,
+        gives: places.takers(),
+        weeks: places.waited(),
     })
 }

@@ -1,39 +1,18 @@
-// The records of a pool, tested one by one.
-ghost use Rattle.std.specs.Prelude.{◌≡◌, List, [], ℕ, ◌≤◌, length};
-ghost use Rattle.kep.specs.Lists.{keep};
-ghost use Rattle.pool.specs.Refusals.{outcome, accepted, tested};
-ghost use Rattle.reading.specs.Records.{grades_fit, takes_nothing, weeks_and_machine_fit, field_tests, none_of, records_tested};
-ghost use Rattle.reading.specs.Fields.{most_records, tells_house, tells_member};
+// The tests of a record.
+ghost use Rattle.std.specs.Prelude.{◌≡◌, List, ℕ, length};
+ghost use Rattle.pool.specs.Refusals.{accepted, tested};
+ghost use Rattle.reading.specs.Records.{grades_fit, takes_nothing, weeks_and_machine_fit, field_tests, none_of};
+ghost use Rattle.reading.specs.Fields.{tells_member};
 ghost use Rattle.reading.specs.inner.Reading.{record_outcome};
 
 use crate::fields::{PoolRecord, Record, machine, taken, weeks};
 use crate::kind::Kind;
-use pool::{Cause, Pool, Refusal};
-
-// How many of the records are houses', if all pass their tests, made in their order; else the first refusal.
-pub(crate) fn count_houses(records: &[Record]) -> Result<u8, Refusal>
-    requires { length records.now ≤ most_records }
-    ensures { outcome result ≡ records_tested [] records.now (accepted (length (keep tells_house records.now))) }
-{
-    let mut houses = 0;
-    let mut houses_only = true;
-    for (at, record) in records.iter().enumerate() {
-        let kind = match read_record(record, houses_only) {
-            Ok(kind) => kind,
-            Err(cause) => return Err(Refusal { cause, at }),
-        };
-        match kind {
-            Kind::House => houses += 1,
-            Kind::Member => houses_only = false,
-        }
-    }
-    Ok(houses)
-}
+use pool::{Cause, Pool};
 
 // One record: its kind, then all its other tests, the first that fails decides. Only a house has to pass those of 20 and 5; 5 asks whether only houses
 // came before it.
 #[tactic(auto, unfolding(pool::specs::Refusals::tested, crate::specs::Records::field_tests))]
-fn read_record(bytes: &Record, houses_only: bool) -> Result<Kind, Cause>
+pub(crate) fn read_record(bytes: &Record, houses_only: bool) -> Result<Kind, Cause>
     ensures { (before : List (List ℕ)) → houses_only ≡ none_of tells_member before → record_outcome result (length before) ≡ tested (field_tests before bytes.now) (length before) (accepted (tells_member bytes.now)) }
 {
     let kind = Kind::try_from(bytes[PoolRecord::KIND])?;

@@ -10,17 +10,17 @@ use Rattle.kep.proofs.Cut.{chunks_cut}
 use Rattle.reading.proofs.ReadLaws.{read_by, pool_read}
 use Rattle.reading.proofs.pool_bytes.read_pool.Goals as goal
 
-pub returns-in_err-altruists : goal.returns-in_err-altruists
-returns-in_err-altruists c =
+pub returns-in_err-count_houses : goal.returns-in_err-count_houses
+returns-in_err-count_houses c =
     let p = err_from_is_err_and c.from_residual.result c.from_residual.ensures.1 in
     let bytes = c.args.bytes.now in
     let same : c.as_chunks.result.0.now ≡ pool_records bytes = c.as_chunks.ensures.front ∙ chunks_cut _ _ bytes in
     let even : length bytes % record_width ≡ 0 = search rules in
-    rw (p.1, p.2) (read_by bytes same even (omega arith) c.in_err-altruists.ensures)
+    rw (p.1, p.2) (read_by bytes same even (omega arith) c.in_err-count_houses.ensures)
 
 pub returns : goal.returns
 returns c =
     let bytes = c.args.bytes.now in
     let same : c.as_chunks.result.0.now ≡ pool_records bytes = c.as_chunks.ensures.front ∙ chunks_cut _ _ bytes in
     let even : length bytes % record_width ≡ 0 = search rules in
-    ap accepted (pool_read _ c.in_ok-altruists.ensures c.takers.ensures c.waited.ensures) ∙ read_by bytes same even (omega arith) c.in_ok-altruists.ensures
+    ap accepted (pool_read _ c.in_ok-count_houses.ensures c.takers.ensures c.waited.ensures) ∙ read_by bytes same even (omega arith) c.in_ok-count_houses.ensures

@@ -5,7 +5,7 @@ use Rattle.kep.specs.Sets.{has}
 use Rattle.kep.proofs.SetLaws.{has_below}
 use Rattle.kep.proofs.Tests.{is_false}
 use Rattle.reading.specs.Fields.{taken_of}
-use Rattle.reading.proofs.takers.takes.Goals as goal
+use Rattle.reading.proofs.arcs.takes.Goals as goal
 
 pub returns-then-class-lt32 : goal.returns-then-class-lt32
 unfolding has

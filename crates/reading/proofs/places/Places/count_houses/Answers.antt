@@ -2,8 +2,8 @@ use mathlib.Core.Path.{ap, ◌∙◌}
 use native.Mathlib.Omega.{arith}
 use Rattle.std.specs.Prelude.{Ok}
 use Rattle.reading.proofs.Scanning.{scan_start, scan_same, scan_house, scan_member, scan_stop, scan_end, read_here}
-use Rattle.reading.proofs.records.count_houses.Goals.{in-House, in-Member}
-use Rattle.reading.proofs.records.count_houses.Goals as goal
+use Rattle.reading.proofs.places.Places.count_houses.Goals.{in-House, in-Member}
+use Rattle.reading.proofs.places.Places.count_houses.Goals as goal
 
 pub loop-at-init : goal.loop-at-init
 loop-at-init c = scan_start _
@@ -14,7 +14,7 @@ returns-in-Err c =
     scan_stop _ h c.loop-at.invariant (read_here _ h c.loop-at.invariant _ c.in-Err.is c.read_record.ensures)
 
 pub overflow_add-houses : goal.overflow_add-houses
-overflow_add-houses c = omega (arith, c.loop-at.invariant.few, c.requires)
+overflow_add-houses c = omega (arith, c.loop-at.invariant.few, c.args.self.now.few)
 
 pub loop-at-preserved : goal.loop-at-preserved
 loop-at-preserved c =
