@@ -5,6 +5,7 @@ pub mod ListLaws
 pub mod Permutations
 pub mod Tables
 pub mod FromFn
+pub mod OverRange
 pub mod Cut
 pub mod WholeRecords
 pub mod Rest

@@ -9,7 +9,7 @@ use native.Mathlib.Nat.{le_trans, mul-le-mul_right}
 use native.Mathlib.Omega.{arith}
 use borrow.Author.Tests.{lt-ltb}
 use lib.Bits.{bit_and}
-use lib.Dec.{T, ltb, leb, ltb→lt, lt→ltb, leb→le, le→leb}
+use lib.Dec.{T, eqb, ltb, leb, eqb→eq, ltb→lt, lt→ltb, leb→le, le→leb}
 use lib.ListN.{length, get_or, get_or-eq_default}
 use lib.Pow.{pow_mono}
 use Rattle.pool.specs.declared.value.Pool.{Pool}
@@ -17,7 +17,7 @@ use Rattle.kep.specs.Sets.{has, counted, set_where, worth_of, Part}
 use Rattle.kep.specs.Graph.{WellFormed, is_member, givers}
 use Rattle.kep.specs.Table.{weeks_worth, per_member}
 use Rattle.pool.specs.Value.{graph_of, arc_allowed, takers_fit, arcs_fit, weeks_in, most_weeks_waited, weeks_fit, pool_fits}
-use Rattle.kep.proofs.Tests.{and_iff, and_iff₃, implies_iff}
+use Rattle.kep.proofs.Tests.{and_iff, and_iff₃, implies_iff, same_test, eq→eqb}
 use Rattle.kep.proofs.ListLaws.{all_below_lem}
 use Rattle.kep.proofs.SetLaws.{has_below, not_in_empty}
 use Rattle.kep.proofs.Parts.{part_and, part_of_and}
@@ -53,13 +53,10 @@ module _ (size altruists : ℕ) (gives : List ℕ) where
       implies v = implies_iff (has (get_or gives u 0) v) (arc_allowed size altruists u v)
 
   -- as code tests it
-  pub takers_pass : (u : ℕ) → get_or gives u 0 < 2 ^ 16 → {allowed : ℕ} → allowed ≡ takers_allowed size altruists u
-      → bit_and (get_or gives u 0) allowed ≡ get_or gives u 0 → T (takers_fit size altruists gives u)
-  takers_pass u b e h = (takers_part u b).1 (part_of_and (rw e at h))
-
-  pub takers_fail : (u : ℕ) → get_or gives u 0 < 2 ^ 16 → {allowed : ℕ} → allowed ≡ takers_allowed size altruists u
-      → (bit_and (get_or gives u 0) allowed ≡ get_or gives u 0 → ⊥) → T (takers_fit size altruists gives u) → ⊥
-  takers_fail u b e n t = n (rw e (part_and ((takers_part u b).0 t)))
+  pub takers_test : (u : ℕ) → get_or gives u 0 < 2 ^ 16 → {allowed : ℕ} → allowed ≡ takers_allowed size altruists u
+      → eqb (bit_and (get_or gives u 0) allowed) (get_or gives u 0) ≡ takers_fit size altruists gives u
+  takers_test u b e =
+      same_test _ (takers_fit size altruists gives u) (λ t. (takers_part u b).1 (part_of_and (rw e at (eqb→eq _ _ t)))) (λ t. eq→eqb _ _ (rw e (part_and ((takers_part u b).0 t))))
 
 -- ---- the test
 

@@ -1,7 +1,7 @@
 // The limits of exchanges: Lc members in a cycle, Lp members in a chain.
 ghost use Rattle.std.specs.Prelude.{◌≡◌};
 ghost use Rattle.pool.specs.Refusals.{outcome, outcome_of};
-ghost use Rattle.pool.specs.Limits.{limits_fit, test_limits, limits_of};
+ghost use Rattle.pool.specs.Limits.{limits_fit, test_limits, limits_of, most_vertices};
 
 use crate::refusal::{Cause, Refusal};
 
@@ -31,6 +31,17 @@ impl Limits {
             return Err(Cause::Limit.into());
         }
         Ok(())
+    }
+
+    // How many vertices an exchange may have. Lp counts the members of a chain, and not its altruist.
+    pub fn most_vertices(self, of_chain: bool) -> usize
+        ensures { result ≡ most_vertices self of_chain }
+    {
+        if of_chain {
+            usize::from(self.chain) + 1
+        } else {
+            usize::from(self.cycle)
+        }
     }
 
     fn fit(self) -> bool

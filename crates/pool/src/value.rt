@@ -1,9 +1,9 @@
 // A pool as a value, and its test (cause 6).
-ghost use Rattle.std.specs.Prelude.{◌&&◌, ◌≡◌, ◌≤◌, ◌<◌, ltb, leb, length, get_or};
-ghost use Rattle.kep.specs.Graph.{is_member};
-ghost use Rattle.kep.specs.Sets.{has, set_where};
+ghost use Rattle.std.specs.Prelude.{◌&&◌, ◌≡◌, ◌≤◌, ◌<◌, ltb, leb, get_or};
+ghost use Rattle.kep.specs.Graph.{is_altruist, is_member};
+ghost use Rattle.kep.specs.Sets.{counted, has, set_where};
 ghost use Rattle.pool.specs.Refusals.{outcome_of};
-ghost use Rattle.pool.specs.Value.{graph_of, test_pool, pool_fits, arcs_fit, weeks_fit, empty_pool};
+ghost use Rattle.pool.specs.Value.{graph_of, test_pool, pool_fits, takers_fit, arcs_fit, weeks_fit, most_weeks_waited, empty_pool};
 
 use crate::refusal::{Cause, Refusal};
 use sets::VertexSet;
@@ -46,6 +46,13 @@ impl Pool {
         Ok(())
     }
 
+    // Is v a house?
+    pub fn is_altruist(self, v: u8) -> bool
+        ensures { result ≡ is_altruist (graph_of self) v }
+    {
+        v < self.altruists
+    }
+
     // Does u give to v?
     pub fn arc(self, u: u8, v: u8) -> bool
         ensures { result ≡ (graph_of self).arc u v }
@@ -65,64 +72,51 @@ impl Pool {
     pub fn members(self) -> VertexSet
         ensures { result.0 ≡ set_where 16 (is_member (graph_of self)) }
     {
-        VertexSet(between(self.altruists, self.size))
+        let places = VertexSet::below(self.size).0;
+        let altruists = VertexSet::below(self.altruists).0;
+        VertexSet(places - (altruists & places))
     }
 
     fn fits(&self) -> bool
         ensures { result ≡ pool_fits self.now }
     {
-        self.size <= 14
-            && self.altruists <= self.size
-            && arcs_fit(self.size, self.altruists, &self.gives)
-            && weeks_fit(self.size, &self.weeks)
+        self.size <= 14 && self.altruists <= self.size && self.arcs_fit() && self.weeks_fit()
     }
-}
 
-// Do all arcs lead from places that are there to members?
-fn arcs_fit(size: u8, altruists: u8, gives: &[u16; 14]) -> bool
-    requires size_bound { size ≤ 14 }
-    requires altruists_bound { altruists ≤ size }
-    ensures { result ≡ arcs_fit size altruists gives.now }
-{
-    let members = between(altruists, size);
-    let places = size as usize;
-    for (u, takers) in gives.iter().enumerate() {
+    // Do all arcs lead from places that are there to members?
+    fn arcs_fit(&self) -> bool
+        requires size_bound { self.now.size ≤ 14 }
+        requires altruists_bound { self.now.altruists ≤ self.now.size }
+        ensures { result ≡ arcs_fit self.now.size self.now.altruists self.now.gives }
+    {
+        let members = self.members().0;
+        (0..14).all(|u| self.takers_fit(members, u))
+    }
+
+    fn takers_fit(&self, members: u16, u: usize) -> bool
+        requires place { u < 14 }
+        requires size_bound { self.now.size ≤ 14 }
+        requires members { members ≡ set_where 16 (is_member (graph_of self.now)) }
+        ensures { result ≡ takers_fit self.now.size self.now.altruists self.now.gives u }
+    {
+        let places = usize::from(self.size);
         let allowed = if u < places { members } else { 0 };
-        if takers & allowed != *takers {
-            return false;
-        }
+        self.gives[u] & allowed == self.gives[u]
     }
-    true
-}
 
-// Has no place waited longer than it may, and what is not there not at all?
-fn weeks_fit(size: u8, weeks: &[u16; 14]) -> bool
-    ensures { result ≡ weeks_fit size weeks.now }
-{
-    let places = size as usize;
-    for (v, waited) in weeks.iter().enumerate() {
+    // Has no place waited longer than it may, and what is not there not at all?
+    fn weeks_fit(&self) -> bool
+        ensures { result ≡ weeks_fit self.now.size self.now.weeks }
+    {
+        (0..14).all(|v| self.waited_fits(v))
+    }
+
+    fn waited_fits(&self, v: usize) -> bool
+        requires { v < 14 }
+        ensures { result ≡ leb (get_or self.now.weeks v 0) (counted (ltb v self.now.size) most_weeks_waited) }
+    {
+        let places = usize::from(self.size);
         let most = if v < places { Pool::MOST_WEEKS } else { 0 };
-        if most < *waited {
-            return false;
-        }
+        self.weeks[v] <= most
     }
-    true
-}
-
-// The vertices from the least on, before the end.
-fn between(least: u8, end: u8) -> u16
-    ensures { result ≡ set_where 16 (λ u. leb least u && ltb u end) }
-{
-    let inside = below(end);
-    inside - (below(least) & inside)
-}
-
-// The vertices before the end.
-fn below(end: u8) -> u16
-    ensures { result ≡ set_where 16 (λ u. ltb u end) }
-{
-    if 15 < end {
-        return 65535;
-    }
-    (1u16 << end) - 1
 }

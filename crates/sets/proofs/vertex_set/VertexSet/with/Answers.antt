@@ -1,9 +1,14 @@
-use Rattle.std.proofs.Common.{sym, arith}
-use Rattle.kep.proofs.Operations.{one_shl, with_or, with_none}
+use mathlib.Core.Path.{◌≡◌, sym, ◌∙◌}
+use native.Mathlib.Omega.{arith}
+use lib.Bits.{bit_or, or_zero_r}
+use Rattle.kep.specs.Sets.{with_vertex}
+use Rattle.kep.proofs.Operations.{with_or, with_none}
+use Rattle.sets.proofs.OneBit.{by_bit}
 use Rattle.sets.proofs.vertex_set.VertexSet.with.Goals as goal
 
-pub returns-then-v-gt15 : goal.returns-then-v-gt15
-returns-then-v-gt15 c = let a = c.args in sym (with_none 16 a.self.0 (omega arith) a.v (omega arith))
-
 pub returns : goal.returns
-returns c = let a = c.args in rw (one_shl 16 a.v (omega arith)) (sym (with_or 16 a.self.0 (omega arith) a.v (omega arith)))
+returns c =
+    let s = c.args.self.0 in
+    let v = c.args.v in
+    rw c.bit.ensures
+    (by_bit (λ b. bit_or s b ≡ with_vertex 16 s v) v (λ l. sym (with_or 16 s (omega arith) v l)) (λ h. or_zero_r s ∙ sym (with_none 16 s (omega arith) v h)))

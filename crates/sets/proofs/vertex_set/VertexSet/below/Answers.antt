@@ -2,7 +2,7 @@ use mathlib.Core.Path.{sym}
 use native.Mathlib.Omega.{arith}
 use lib.Pow.{pow_pos}
 use Rattle.kep.proofs.Operations.{one_shl, below_set}
-use Rattle.pool.proofs.value.below.Goals as goal
+use Rattle.sets.proofs.vertex_set.VertexSet.below.Goals as goal
 
 pub returns-then-end-gt15 : goal.returns-then-end-gt15
 returns-then-end-gt15 c = sym (below_set 16 c.args.end 16 (omega arith) (λ u l. (λ _. l, λ _. omega arith)))
