@@ -29,12 +29,12 @@ impl Filling {
         ensures { result ≡ true → 3 ≤ self.now.pool.size }
     {
         let most = self.limit_of(0);
-        let enough = if self.pool.altruists > 0 {
+        let enough = if self.pool.is_altruist(0) {
             most
         } else {
             2 * most
         };
-        self.pool.size > 2 && self.pool.size as u32 <= enough
+        self.pool.size > 2 && usize::from(self.pool.size) <= enough
     }
 
     // Where most sets are allowed: pass one for all sets, eight abreast, and then pass two for each vertex.
@@ -60,16 +60,12 @@ impl Filling {
         }
     }
 
-    // How many vertices an exchange that begins at the vertex may have. Lp counts the members of a chain, and not its altruist.
-    fn limit_of(&self, low: u8) -> u32
+    // How many vertices an exchange that begins at the vertex may have.
+    fn limit_of(&self, low: u8) -> usize
         ensures small { result ≤ 256 }
         ensures limit { result ≡ limit_at (graph_of self.now.pool) self.now.limits.cycle self.now.limits.chain low }
     {
-        if low < self.pool.altruists {
-            self.limits.chain as u32 + 1
-        } else {
-            self.limits.cycle as u32
-        }
+        self.limits.most_vertices(self.pool.is_altruist(low))
     }
 
     // Where an exchange that begins at the vertex may end: a cycle at a giver of it, a chain anywhere but at its altruist.
@@ -77,7 +73,7 @@ impl Filling {
         requires { low < self.now.pool.size }
         ensures { Closes (graph_of self.now.pool) self.now.limits.cycle self.now.limits.chain low result }
     {
-        if low < self.pool.altruists {
+        if self.pool.is_altruist(low) {
             65535 - (1u16 << low)
         } else {
             self.givers[low as usize]
@@ -93,7 +89,7 @@ impl Filling {
     {
         let most = self.limit_of(low);
         // Where the limit allows as many as there are, the vertices need not be counted.
-        let counted = if self.pool.size as u32 <= most + low as u32 {
+        let counted = if usize::from(self.pool.size) <= most + usize::from(low) {
             None
         } else {
             Some(most)
@@ -109,7 +105,7 @@ impl Filling {
         ensures { Changed (Begins low) (2 ^ self.now.pool.size) (entry_of self.now.pool self.now.limits) table.old table.new }
     {
         self.fill_allowed(low, self.limit_of(low), table);
-        if low < self.pool.altruists {
+        if self.pool.is_altruist(low) {
             // Every path is a chain but that of the altruist alone.
             table[1usize << low] = 0;
         } else {
@@ -118,7 +114,7 @@ impl Filling {
     }
 
     // Pass one for the sets that begin at `low` and have at most `most` vertices.
-    fn fill_allowed(&self, low: u8, most: u32, table: &mut [u16])
+    fn fill_allowed(&self, low: u8, most: usize, table: &mut [u16])
         requires room { 2 ^ self.now.pool.size ≤ length table.old }
         requires in_pool { low < self.now.pool.size }
         requires held { Held false (graph_of self.now.pool) low (2 ^ self.now.pool.size) table.old }
@@ -149,12 +145,12 @@ fn clear_table(sets: usize, table: &mut [u16])
 
 // The next set of at most `most` vertices that begins where `set` does. Those that begin there are `first` and more by multiples of
 // its double; after one of `most` vertices every set up to that with the lowest bit of its others added has more, and is passed over.
-fn next_allowed(set: usize, first: usize, most: u32) -> usize
+fn next_allowed(set: usize, first: usize, most: usize) -> usize
     requires several { first < set }
     requires small { set < 2 ^ 14 }
     ensures { (l : ℕ) → first ≡ 2 ^ l → Allowed l most set → Next l most set result }
 {
-    if set.count_ones() < most {
+    if (set.count_ones() as usize) < most {
         return set + 2 * first;
     }
     let others = set - first;
@@ -164,7 +160,7 @@ fn next_allowed(set: usize, first: usize, most: u32) -> usize
 
 // Pass two for the sets that begin at `low`: of the ends those in the closing set, where a set has at most so many vertices. With no
 // limit the vertices are not counted.
-fn keep_ends(size: u8, low: u8, most: Option<u32>, closing: u16, table: &mut [u16])
+fn keep_ends(size: u8, low: u8, most: Option<usize>, closing: u16, table: &mut [u16])
     requires size_bound { size ≤ 14 }
     requires room { 2 ^ size ≤ length table.old }
     requires in_pool { low < size }
@@ -177,11 +173,11 @@ fn keep_ends(size: u8, low: u8, most: Option<u32>, closing: u16, table: &mut [u1
 }
 
 // The closing set, if there is no limit, or the set has at most so many vertices.
-fn closing_within(set: usize, most: Option<u32>, closing: u16) -> u16
+fn closing_within(set: usize, most: Option<usize>, closing: u16) -> u16
     ensures { result ≡ closing_at most closing set }
 {
     match most {
-        Some(most) if most < set.count_ones() => 0,
+        Some(most) if most < set.count_ones() as usize => 0,
         _ => closing,
     }
 }

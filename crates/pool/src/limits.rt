@@ -1,5 +1,5 @@
 // The limits of exchanges: Lc members in a cycle, Lp members in a chain.
-ghost use Rattle.std.specs.Prelude.{◌≡◌};
+ghost use Rattle.std.specs.Prelude.{◌≡◌, ◌≤◌};
 ghost use Rattle.pool.specs.Refusals.{outcome, outcome_of};
 ghost use Rattle.pool.specs.Limits.{limits_fit, test_limits, limits_of, most_vertices};
 
@@ -35,7 +35,8 @@ impl Limits {
 
     // How many vertices an exchange may have. Lp counts the members of a chain, and not its altruist.
     pub fn most_vertices(self, of_chain: bool) -> usize
-        ensures { result ≡ most_vertices self of_chain }
+        ensures most { result ≡ most_vertices self of_chain }
+        ensures small { result ≤ 256 }
     {
         if of_chain {
             usize::from(self.chain) + 1

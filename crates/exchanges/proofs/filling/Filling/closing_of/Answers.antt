@@ -1,4 +1,5 @@
-use mathlib.Core.Path.{ap}
+use borrow.Author.Tests.{ltb-true, ltb-false}
+use mathlib.Core.Path.{ap, sym, ◌∙◌}
 use native.Mathlib.Omega.{arith}
 use Prim.Native.Nat.{ℕ, ◌-◌}
 use Rattle.pool.specs.Value.{graph_of}
@@ -8,14 +9,14 @@ use Rattle.exchanges.proofs.Given.{fits, few, known_givers}
 use Rattle.exchanges.proofs.Keeping.{member_closes, altruist_closes}
 use Rattle.exchanges.proofs.filling.Filling.closing_of.Goals as goal
 
-pub returns-then-low-self : goal.returns-then-low-self
-returns-then-low-self c =
+pub returns-then-is_altruist : goal.returns-then-is_altruist
+returns-then-is_altruist c =
     let f = c.args.self.now in
     let l = c.args.low in
-    altruist_closes (graph_of f.pool) (fits_formed f.pool (fits f)) f.limits.cycle f.limits.chain l (few f) c.requires c.if-low-self.true
+    altruist_closes (graph_of f.pool) (fits_formed f.pool (fits f)) f.limits.cycle f.limits.chain l (few f) c.requires (ltb-true _ _ (sym c.is_altruist.ensures ∙ c.if-is_altruist.true))
     (ap (λ (x : ℕ). 65535 - x) (one_shl 16 l (omega (arith, few f))))
 
-pub returns-else-low-self : goal.returns-else-low-self
-returns-else-low-self c =
+pub returns-else-is_altruist : goal.returns-else-is_altruist
+returns-else-is_altruist c =
     let f = c.args.self.now in
-    member_closes (graph_of f.pool) (fits_formed f.pool (fits f)) f.limits.cycle f.limits.chain c.args.low c.if-low-self.false (known_givers f c.args.low c.requires)
+    member_closes (graph_of f.pool) (fits_formed f.pool (fits f)) f.limits.cycle f.limits.chain c.args.low (ltb-false _ _ (sym c.is_altruist.ensures ∙ c.if-is_altruist.false)) (known_givers f c.args.low c.requires)

@@ -3,7 +3,7 @@ use Prim.Native.Nat.{◌^◌}
 use native.Mathlib.Omega.{arith}
 use Rattle.exchanges.proofs.Changed.{changed_none}
 use Rattle.exchanges.proofs.ByLowest.{kept_counted, kept_all, ones_few}
-use Rattle.exchanges.proofs.filling.Filling.keep_exchanges.Goals.{then-self-most, else-self-most}
+use Rattle.exchanges.proofs.filling.Filling.keep_exchanges.Goals.{then-from-most, else-from-most}
 use Rattle.exchanges.proofs.filling.Filling.keep_exchanges.Goals as goal
 
 pub returns : goal.returns
@@ -12,10 +12,10 @@ returns c =
     let f = a.self.now in
     let limit = c.limit_of-most.ensures.limit in
     let held = changed_none (2 ^ f.pool.size) c.requires.held.each in
-    elim c.if-self-most.branch [
-      | then-self-most w ↦
+    elim c.if-from-most.branch [
+      | then-from-most w ↦
           kept_all c.closing_of.ensures held (λ _ _ _ _. refl)
-          (λ s small b more. absurd (omega (arith, w.if-self-most.true, limit, ones_few a.low f.pool.size s c.requires.in_pool small b)))
+          (λ s small b more. absurd (omega (arith, w.if-from-most.true, limit, ones_few a.low f.pool.size s c.requires.in_pool small b)))
           (rw w.counted-is at c.keep_ends.ensures)
-      | else-self-most w ↦ kept_counted c.closing_of.ensures held (λ _ _ _ _. refl) (rw (w.counted-is, limit) at c.keep_ends.ensures)
+      | else-from-most w ↦ kept_counted c.closing_of.ensures held (λ _ _ _ _. refl) (rw (w.counted-is, limit) at c.keep_ends.ensures)
     ]
