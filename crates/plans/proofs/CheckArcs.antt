@@ -4,13 +4,15 @@ use mathlib.Core.List.{List, [], ◌∷◌}
 use mathlib.Core.Path.{◌≡◌, refl, sym, ◌∙◌, ap}
 use Prim.Native.Nat.{ℕ, ◌+◌, ◌-◌, ◌≤◌, ◌<◌}
 use native.Mathlib.Omega.{arith}
-use lib.Dec.{leb}
+use lib.Dec.{T, leb, ltb, ltb→lt}
 use lib.ListN.{length, take, drop, get_or, length-drop}
 use lib.Seq.{take_all}
 use borrow.Author.Tests.{lt-ltb, le-ltb, le-leb, lt-leb}
 use Rattle.kep.specs.Graph.{Graph}
 use Rattle.kep.specs.Exchange.{walk, last_of, head_of}
-use Rattle.plans.specs.Check.{joined, within_limits}
+use Rattle.plans.specs.Check.{all_below, joined, within_limits}
+use Rattle.kep.proofs.Each.{each_first}
+use Rattle.kep.proofs.ListLaws.{all_each}
 use Rattle.kep.proofs.Rest.{rest_next, rest_none}
 use Rattle.kep.proofs.Walks.{walk_cons}
 
@@ -19,6 +21,10 @@ pub head_here : (xs : List ℕ) → head_of xs ≡ get_or xs 0 0
 unfolding head_of
 head_here [] = refl
 head_here (x ∷ xs) = refl
+
+pub head_below : (xs : List ℕ) → T (all_below 14 xs) → get_or xs 0 0 < 14
+head_below [] t = omega arith
+head_below (x ∷ xs) t = ltb→lt x 14 (each_first (all_each (λ y. ltb y 14) (x ∷ xs) t))
 
 -- ---- the walk
 
@@ -50,14 +56,14 @@ last_here x [] = refl
 last_here x (y ∷ ys) = last_here y ys
 
 module _ (g : Graph) where
-  pub joined_chain : (xs : List ℕ) → 1 ≤ length xs → get_or xs 0 0 < g.altruists → walk g (get_or xs 0 0) (drop 1 xs) ≡ joined g xs
-  unfolding joined
+  pub joined_chain : (xs : List ℕ) → 1 ≤ length xs → head_of xs < g.altruists → walk g (head_of xs) (drop 1 xs) ≡ joined g xs
+  unfolding head_of joined
   joined_chain [] some h = absurd (omega arith)
   joined_chain (x ∷ xs) some h = rw (lt-ltb x g.altruists h) (sym (and-true (walk g x xs)))
 
   -- the last vertex of a cycle gives to the first
-  pub joined_cycle : (xs : List ℕ) → 1 ≤ length xs → g.altruists ≤ get_or xs 0 0 → walk g (get_or xs (length xs - 1) 0) xs ≡ joined g xs
-  unfolding joined
+  pub joined_cycle : (xs : List ℕ) → 1 ≤ length xs → g.altruists ≤ head_of xs → walk g (get_or xs (length xs - 1) 0) xs ≡ joined g xs
+  unfolding head_of joined
   joined_cycle [] some h = absurd (omega arith)
   joined_cycle (x ∷ xs) some h =
       let back : length (x ∷ xs) - 1 ≡ length xs = omega arith in
@@ -66,19 +72,19 @@ module _ (g : Graph) where
 -- ---- its length
 
 module _ (g : Graph) (lc lp : ℕ) where
-  pub limits_cycle : (xs : List ℕ) → 1 ≤ length xs → g.altruists ≤ get_or xs 0 0 → leb (length xs) lc ≡ within_limits g lc lp xs
-  unfolding within_limits
+  pub limits_cycle : (xs : List ℕ) → 1 ≤ length xs → g.altruists ≤ head_of xs → leb (length xs) lc ≡ within_limits g lc lp xs
+  unfolding head_of within_limits
   limits_cycle [] some h = absurd (omega arith)
   limits_cycle (x ∷ xs) some h = rw (le-ltb x g.altruists h, within_limits)
 
   -- a lone altruist is no exchange
-  pub limits_lone : (xs : List ℕ) → length xs ≡ 1 → get_or xs 0 0 < g.altruists → false ≡ within_limits g lc lp xs
-  unfolding within_limits
+  pub limits_lone : (xs : List ℕ) → length xs ≡ 1 → head_of xs < g.altruists → false ≡ within_limits g lc lp xs
+  unfolding head_of within_limits
   limits_lone [] lone h = absurd (omega arith)
   limits_lone (x ∷ xs) lone h = rw (lt-ltb x g.altruists h, within_limits, lt-leb 1 (length xs) (omega arith))
 
-  pub limits_chain : (xs : List ℕ) → 1 < length xs → get_or xs 0 0 < g.altruists → leb (length xs - 1) lp ≡ within_limits g lc lp xs
-  unfolding within_limits
+  pub limits_chain : (xs : List ℕ) → 1 < length xs → head_of xs < g.altruists → leb (length xs - 1) lp ≡ within_limits g lc lp xs
+  unfolding head_of within_limits
   limits_chain [] some h = absurd (omega arith)
   limits_chain (x ∷ xs) some h =
       let back : length (x ∷ xs) - 1 ≡ length xs = omega arith in

@@ -28,32 +28,31 @@ use Rattle.kep.proofs.Tests.{same_test, eq→eqb, and_left, and_right, and_iff}
 use Rattle.kep.proofs.ExchangeFacts.{members_served}
 use Rattle.kep.proofs.Fits.{taker, walk_members}
 use Rattle.pool.proofs.Tested.{all_pass, first_fails}
-use Rattle.plans.proofs.CheckArcs.{head_here}
 
 -- ---- 14, from the first vertex
 
 module _ (least : ℕ) (xs : List ℕ) where
-  pub rising_low : get_or xs 0 0 < least → false ≡ rising least xs
+  pub rising_low : head_of xs < least → false ≡ rising least xs
   unfolding rising
-  rising_low h = rw (head_here xs, lt-leb least (get_or xs 0 0) h)
+  rising_low h = rw (lt-leb least (head_of xs) h)
 
-  pub rising_high : least ≤ get_or xs 0 0 → none_lower (get_or xs 0 0) xs ≡ rising least xs
+  pub rising_high : {first : ℕ} → first ≡ head_of xs → least ≤ first → none_lower first xs ≡ rising least xs
   unfolding rising
-  rising_high h = rw (head_here xs, le-leb least (get_or xs 0 0) h)
+  rising_high {first} e h = rw (← e, le-leb least first h)
 
 -- ---- 17, by the bytes 14 and 15
 
 -- no arc leads to an altruist, so all but a chain's first vertex are members
-served_chain : (g : Graph) → WellFormed g → (xs : List ℕ) → 1 ≤ length xs → T (joined g xs) → get_or xs 0 0 < g.altruists → served g xs + 1 ≡ length xs
-unfolding joined total
+served_chain : (g : Graph) → WellFormed g → (xs : List ℕ) → 1 ≤ length xs → T (joined g xs) → head_of xs < g.altruists → served g xs + 1 ≡ length xs
+unfolding head_of joined total
 served_chain g wf [] some j h = absurd (omega arith)
 served_chain g wf (x ∷ xs) some j h =
     let path = and_left (walk g x xs) (is_altruist g x || g.arc (last_of x xs) x) j in
     let first : member_worth g x ≡ 0 = rw (lt-leb g.altruists x h) in
     omega (arith, first, members_served g (walk_members g 0 0 wf x xs path))
 
-served_cycle : (g : Graph) → WellFormed g → (xs : List ℕ) → 1 ≤ length xs → T (joined g xs) → g.altruists ≤ get_or xs 0 0 → served g xs ≡ length xs
-unfolding joined
+served_cycle : (g : Graph) → WellFormed g → (xs : List ℕ) → 1 ≤ length xs → T (joined g xs) → g.altruists ≤ head_of xs → served g xs ≡ length xs
+unfolding head_of joined
 served_cycle g wf [] some j h = absurd (omega arith)
 served_cycle g wf (x ∷ xs) some j h =
     let (path, end) = (and_iff (walk g x xs) (is_altruist g x || g.arc (last_of x xs) x)).0 j in
@@ -62,9 +61,9 @@ served_cycle g wf (x ∷ xs) some j h =
 
 module _ (g : Graph) (wf : WellFormed g) (r : List ℕ) where
   -- what is right where the first vertex is an altruist, and where it is not
-  ends_altruist : (xs : List ℕ) → xs ≡ vertices_of r → 1 ≤ length xs → T (joined g xs) → get_or xs 0 0 < g.altruists
+  ends_altruist : (xs : List ℕ) → xs ≡ vertices_of r → 1 ≤ length xs → T (joined g xs) → head_of xs < g.altruists
       → ends_right g r ≡ (eqb (get_or r 14 0) 67 && eqb (get_or r 15 0 + 1) (length xs))
-  unfolding ends_right kind_of
+  unfolding head_of ends_right kind_of
   ends_altruist [] list some arcs h = absurd (omega arith)
   ends_altruist (x ∷ xs) list some arcs h =
       let long = served_chain g wf (x ∷ xs) some arcs h in
@@ -75,31 +74,31 @@ module _ (g : Graph) (wf : WellFormed g) (r : List ℕ) where
       (λ t. eq→eqb (b + 1) (length (x ∷ xs)) (omega (arith, long, eqb→eq b (served g (x ∷ xs)) t)))
       (λ t. eq→eqb b (served g (x ∷ xs)) (omega (arith, long, eqb→eq (b + 1) (length (x ∷ xs)) t)))))
 
-  ends_member : (xs : List ℕ) → xs ≡ vertices_of r → 1 ≤ length xs → T (joined g xs) → g.altruists ≤ get_or xs 0 0
+  ends_member : (xs : List ℕ) → xs ≡ vertices_of r → 1 ≤ length xs → T (joined g xs) → g.altruists ≤ head_of xs
       → ends_right g r ≡ (eqb (get_or r 14 0) 82 && eqb (get_or r 15 0) (length xs))
-  unfolding ends_right kind_of
+  unfolding head_of ends_right kind_of
   ends_member [] list some arcs h = absurd (omega arith)
   ends_member (x ∷ xs) list some arcs h = rw (← list, le-ltb x g.altruists h, kind_of, served_cycle g wf (x ∷ xs) some arcs h)
 
   module _ (xs : List ℕ) (list : xs ≡ vertices_of r) (some : 1 ≤ length xs) (arcs : T (joined g xs)) where
     -- by the byte 14
-    pub ends_chain : get_or r 14 0 ≡ 67 → (ltb (get_or xs 0 0) g.altruists && eqb (get_or r 15 0 + 1) (length xs)) ≡ ends_right g r
+    pub ends_chain : get_or r 14 0 ≡ 67 → (ltb (head_of xs) g.altruists && eqb (get_or r 15 0 + 1) (length xs)) ≡ ends_right g r
     ends_chain e =
-        elim (dec_le g.altruists (get_or xs 0 0)) [
-          | yes m ↦ rw (ends_member xs list some arcs m, le-ltb (get_or xs 0 0) g.altruists m, e)
-          | no a ↦ rw (ends_altruist xs list some arcs (omega arith), lt-ltb (get_or xs 0 0) g.altruists (omega arith), e)
+        elim (dec_le g.altruists (head_of xs)) [
+          | yes m ↦ rw (ends_member xs list some arcs m, le-ltb (head_of xs) g.altruists m, e)
+          | no a ↦ rw (ends_altruist xs list some arcs (omega arith), lt-ltb (head_of xs) g.altruists (omega arith), e)
         ]
 
-    pub ends_cycle : get_or r 14 0 ≡ 82 → (not (ltb (get_or xs 0 0) g.altruists) && eqb (get_or r 15 0) (length xs)) ≡ ends_right g r
+    pub ends_cycle : get_or r 14 0 ≡ 82 → (not (ltb (head_of xs) g.altruists) && eqb (get_or r 15 0) (length xs)) ≡ ends_right g r
     ends_cycle e =
-        elim (dec_le g.altruists (get_or xs 0 0)) [
-          | yes m ↦ rw (ends_member xs list some arcs m, le-ltb (get_or xs 0 0) g.altruists m, e)
-          | no a ↦ rw (ends_altruist xs list some arcs (omega arith), lt-ltb (get_or xs 0 0) g.altruists (omega arith), e)
+        elim (dec_le g.altruists (head_of xs)) [
+          | yes m ↦ rw (ends_member xs list some arcs m, le-ltb (head_of xs) g.altruists m, e)
+          | no a ↦ rw (ends_altruist xs list some arcs (omega arith), lt-ltb (head_of xs) g.altruists (omega arith), e)
         ]
 
     pub ends_other : get_or r 14 0 ≢ 67 → get_or r 14 0 ≢ 82 → false ≡ ends_right g r
     ends_other m n =
-        elim (dec_le g.altruists (get_or xs 0 0)) [
+        elim (dec_le g.altruists (head_of xs)) [
           | yes h ↦ rw (ends_member xs list some arcs h, ne_eqb (get_or r 14 0) 82 n)
           | no a ↦ rw (ends_altruist xs list some arcs (omega arith), ne_eqb (get_or r 14 0) 67 m)
         ]

@@ -6,7 +6,7 @@ use mathlib.Core.Path.{◌≡◌, refl, sym, ◌∙◌, ap}
 use Prim.Native.Nat.{ℕ, suc, ◌≤◌, ◌<◌}
 use native.Mathlib.Decide.{dec_le, ℕ_discrete}
 use native.Mathlib.Omega.{arith}
-use lib.Dec.{T, ltb, leb, leb→le, ltb→lt}
+use lib.Dec.{T, ltb, leb, leb→le, lt→ltb, ltb→lt}
 use lib.ListN.{length, take, drop}
 use lib.Seq.{take_at}
 use borrow.Author.Tests.{lt-ltb, le-ltb, eq-eqb, ne_eqb, le-leb}
@@ -18,8 +18,8 @@ use Rattle.plans.specs.Check.{listed, unlisted, vertices_of, filler_of, all_belo
 use Rattle.plans.specs.inner.CheckSteps.{Listed}
 use Rattle.kep.proofs.Tests.{and_iff₃, from_true, from_false, is_true, is_false, passes?}
 use Rattle.kep.proofs.Each.{each_map}
-use Rattle.kep.proofs.ListLaws.{all_each, all_cons}
-use Rattle.plans.proofs.Records.{listed_unlisted, listed_filler, listed_vertex, vertices_few}
+use Rattle.kep.proofs.ListLaws.{all_each, each_all, all_cons}
+use Rattle.plans.proofs.Records.{listed_unlisted, listed_filler, listed_vertex}
 
 module _ (s : ℕ) where
   -- how many bytes stand before the first that is not below s
@@ -102,12 +102,11 @@ module _ (p : Pool) (r : List ℕ) (small : p.size ≤ 14) (whole : length r ≡
   listed_part e some =
       let long = vertices_found e in
       let t : T (lists_vertices (graph_of p) r) = from_true (rw (lists_is, e, le-leb 1 (length (vertices_of r)) (omega arith)) refl) in
-      rw (← long, vertices_part)
-      record {
-        passed = t;
-        whole = whole;
-        vertices = refl;
-        some = (passing t).0;
-        few = omega (arith, vertices_few r whole);
-        below = each_map (λ x. ltb→lt x p.size) (all_each (λ x. ltb x p.size) (vertices_of r) (passing t).1);
-      }
+      rw (← long, vertices_part) record { passed = t; vertices = refl }
+
+-- the vertices listed are those of a largest pool
+pub listed_below : {p : Pool} {r xs : List ℕ} → p.size ≤ 14 → Listed p r xs → T (all_below 14 xs)
+unfolding lists_vertices
+listed_below {p} {r} small k =
+    let tests = (and_iff₃ (leb 1 (length (vertices_of r))) (all_below p.size (vertices_of r)) (all_filler (filler_of r))).0 k.passed in
+    rw k.vertices (each_all (λ x. ltb x 14) (each_map (λ x t. let h = ltb→lt x p.size t in lt→ltb x 14 (omega arith)) (all_each (λ x. ltb x p.size) (vertices_of r) tests.1)))

@@ -5,7 +5,7 @@ ghost use Rattle.pool.specs.Value.{graph_of};
 ghost use Rattle.plans.specs.Check.{check};
 ghost use Rattle.plans.specs.CheckCall.{check_outcome};
 
-use crate::check_record::{Before, check_record};
+use crate::check_record::Before;
 use crate::record_part::PlanRecord;
 use crate::rules::Rules;
 use pool::{Cause, Limits, Refusal};
@@ -18,27 +18,29 @@ pub fn check(pool: &[u8], limits: Limits, plan: &[u8]) -> Result<u8, Refusal>
 {
     let pool = read_pool(pool)?;
     limits.test()?;
-    check_records(&Rules { pool, limits }, plan)
+    Rules { pool, limits }.check_records(plan)
 }
 
-// Causes 11 to 17.
-fn check_records(rules: &Rules, plan: &[u8]) -> Result<u8, Refusal>
-    ensures { outcome result ≡ check (graph_of rules.now.pool) rules.now.limits.cycle rules.now.limits.chain plan.now }
-{
-    let (records, rest) = plan.as_chunks::<{ PlanRecord::WIDTH }>();
-    if !rest.is_empty() {
-        return Err(Cause::PlanLength.into());
-    }
-    let mut before = Before {
-        met: VertexSet(0),
-        least: 0,
-        served: 0,
-    };
-    for (at, record) in records.iter().enumerate() {
-        before = match check_record(rules, before, record) {
-            Ok(next) => next,
-            Err(cause) => return Err(Refusal { cause, at }),
+impl Rules {
+    // Causes 11 to 17.
+    fn check_records(&self, plan: &[u8]) -> Result<u8, Refusal>
+        ensures { outcome result ≡ check (graph_of self.now.pool) self.now.limits.cycle self.now.limits.chain plan.now }
+    {
+        let (records, rest) = plan.as_chunks::<{ PlanRecord::WIDTH }>();
+        if !rest.is_empty() {
+            return Err(Cause::PlanLength.into());
+        }
+        let mut before = Before {
+            met: VertexSet(0),
+            least: 0,
+            served: 0,
         };
+        for (at, record) in records.iter().enumerate() {
+            before = match self.check_record(before, record) {
+                Ok(next) => next,
+                Err(cause) => return Err(Refusal { cause, at }),
+            };
+        }
+        Ok(before.served)
     }
-    Ok(before.served)
 }

@@ -1,8 +1,7 @@
 -- What the functions of the checker tell one another: the check of one record, where the vertices met are kept as a set.
-use Rattle.std.specs.Prelude.{Bool, true, false, List, [], ◌∷◌, ◌≡◌, ℕ, ◌+◌, ◌^◌, ◌≤◌, ◌<◌, T, length, Option, Some, None, Result, Ok, Err}
+use Rattle.std.specs.Prelude.{Bool, true, false, List, [], ◌∷◌, ◌≡◌, ℕ, ◌+◌, ◌^◌, T, Option, Some, None, Result, Ok, Err}
 use Rattle.std.specs.Int.Bits.{bit_or}
 use Rattle.pool.specs.declared.value.Pool.{Pool}
-use Rattle.kep.specs.Lists.{Each}
 use Rattle.kep.specs.Sets.{has}
 use Rattle.kep.specs.Graph.{Graph}
 use Rattle.pool.specs.Refusals.{number_of, Outcome, accepted, refused, tested}
@@ -50,8 +49,4 @@ pub record RecordChecked (s : Rules) (b : Before) (r : List ℕ) (answer : Resul
 -- a record r that passes 12 lists the vertices xs
 pub record Listed (p : Pool) (r xs : List ℕ) : Type 0 where
   pub passed : T (lists_vertices (graph_of p) r)
-  pub whole : length r ≡ 16
   pub vertices : xs ≡ vertices_of r
-  pub some : 1 ≤ length xs
-  pub few : length xs ≤ 14
-  pub below : Each (λ x. x < p.size) xs

@@ -8,7 +8,7 @@ use Rattle.pool.proofs.ValueLaws.{fits_size}
 use Rattle.plans.proofs.PlanChecked.{check_length}
 use Rattle.plans.proofs.CheckSteps.{checking_start, checking_end, checking_most}
 use Rattle.plans.proofs.CheckLoop.{turn_stop, turn_next}
-use Rattle.plans.proofs.checker.check_records.Goals as goal
+use Rattle.plans.proofs.rules.Rules.check_records.Goals as goal
 
 pub returns-then-not-is_empty : goal.returns-then-not-is_empty
 returns-then-not-is_empty c =
@@ -20,7 +20,7 @@ loop-at-init c = checking_start _ _ _ c.args.plan.now (search rules)
 
 pub check_record-requires : goal.check_record-requires
 check_record-requires c =
-    let rules = c.args.rules.now in
+    let rules = c.args.self.now in
     omega (arith, checking_most _ _ _ c.args.plan.now c.loop-at.invariant, fits_size rules.pool rules.pool_fits)
 
 pub returns-in-Err : goal.returns-in-Err

@@ -2,45 +2,39 @@ use mathlib.Core.Path.{sym, ap, ◌∙◌}
 use Prim.Native.Nat.{◌+◌}
 use native.Mathlib.Omega.{arith}
 use Rattle.pool.specs.Value.{graph_of}
-use Rattle.kep.proofs.Each.{each_map}
 use Rattle.kep.proofs.Tests.{from_true, from_false}
-use Rattle.pool.proofs.ValueLaws.{fits_size}
-use Rattle.plans.proofs.CheckArcs.{head_here}
 use Rattle.plans.proofs.CheckSteps.{served_most}
 use Rattle.plans.proofs.Meeting.{met_before, met_now}
 use Rattle.plans.proofs.CheckCode.{ends_served, stop_12, stop_13, stop_14, stop_15, stop_16, stop_17, passes_all}
-use Rattle.plans.proofs.check_record.check_record.Goals as goal
+use Rattle.plans.proofs.rules.Rules.check_record.Goals as goal
 
 pub returns-in_default : goal.returns-in_default
 returns-in_default c = stop_12 c.in_default.ensures
 
-pub meet-requires : goal.meet-requires
-meet-requires c = let rules = c.args.rules.now in each_map (λ x h. omega (arith, fits_size rules.pool rules.pool_fits)) c.in-Some.ensures.below
-
 pub returns-in_default-meet : goal.returns-in_default-meet
-returns-in_default-meet c = stop_13 c.in-Some.ensures (met_before _ c.in-Some.vertices.now c.in_default-meet.ensures)
+returns-in_default-meet c = stop_13 c.in-Some.ensures (met_before _ c.in-Some.vertices.listed.now c.in_default-meet.ensures)
 
 pub returns-then-not-rises : goal.returns-then-not-rises
 returns-then-not-rises c =
-    let new = met_now _ c.in-Some.vertices.now c.in-Some-meet.ensures in
+    let new = met_now _ c.in-Some.vertices.listed.now c.in-Some-meet.ensures in
     stop_14 c.in-Some.ensures new.0 (from_false (sym c.rises.ensures ∙ c.if-not-rises.true))
 
 pub returns-then-not-all_joined : goal.returns-then-not-all_joined
 returns-then-not-all_joined c =
-    let new = met_now _ c.in-Some.vertices.now c.in-Some-meet.ensures in
+    let new = met_now _ c.in-Some.vertices.listed.now c.in-Some-meet.ensures in
     let high = from_true (sym c.rises.ensures ∙ c.if-not-rises.false) in
     stop_15 c.in-Some.ensures new.0 high (from_false (sym c.all_joined.ensures ∙ c.if-not-all_joined.true))
 
 pub returns-then-not-within_limits : goal.returns-then-not-within_limits
 returns-then-not-within_limits c =
-    let new = met_now _ c.in-Some.vertices.now c.in-Some-meet.ensures in
+    let new = met_now _ c.in-Some.vertices.listed.now c.in-Some-meet.ensures in
     let high = from_true (sym c.rises.ensures ∙ c.if-not-rises.false) in
     let arcs = from_true (sym c.all_joined.ensures ∙ c.if-not-all_joined.false) in
     stop_16 c.in-Some.ensures new.0 high arcs (from_false (sym c.within_limits.ensures ∙ c.if-not-within_limits.true))
 
 pub returns-then-not-ends_right : goal.returns-then-not-ends_right
 returns-then-not-ends_right c =
-    let new = met_now _ c.in-Some.vertices.now c.in-Some-meet.ensures in
+    let new = met_now _ c.in-Some.vertices.listed.now c.in-Some-meet.ensures in
     let high = from_true (sym c.rises.ensures ∙ c.if-not-rises.false) in
     let arcs = from_true (sym c.all_joined.ensures ∙ c.if-not-all_joined.false) in
     let short = from_true (sym c.within_limits.ensures ∙ c.if-not-within_limits.false) in
@@ -50,15 +44,15 @@ pub overflow_add-result-2 : goal.overflow_add-result-2
 overflow_add-result-2 c =
     let k = c.in-Some.ensures in
     let right = from_true (sym c.ends_right.ensures ∙ c.if-not-ends_right.false) in
-    omega (arith, c.requires, ends_served _ c.args.bytes.now _ k.vertices right, served_most (graph_of c.args.rules.now.pool) c.in-Some.vertices.now, k.few)
+    omega (arith, c.requires, ends_served _ c.args.bytes.now _ k.vertices right, served_most (graph_of c.args.self.now.pool) c.in-Some.vertices.listed.now, c.in-Some.vertices.few)
 
 pub returns : goal.returns
 returns c =
     let k = c.in-Some.ensures in
-    let new = met_now _ c.in-Some.vertices.now c.in-Some-meet.ensures in
+    let new = met_now _ c.in-Some.vertices.listed.now c.in-Some-meet.ensures in
     let high = from_true (sym c.rises.ensures ∙ c.if-not-rises.false) in
     let arcs = from_true (sym c.all_joined.ensures ∙ c.if-not-all_joined.false) in
     let short = from_true (sym c.within_limits.ensures ∙ c.if-not-within_limits.false) in
     let right = from_true (sym c.ends_right.ensures ∙ c.if-not-ends_right.false) in
-    passes_all k new.0 high arcs short right new.1 (ap (λ x. x + 1) (sym (head_here c.in-Some.vertices.now)))
+    passes_all k new.0 high arcs short right new.1 (ap (λ x. x + 1) c.first.ensures.value)
     (ap (λ n. c.args.before.served + n) (ends_served _ c.args.bytes.now _ k.vertices right))

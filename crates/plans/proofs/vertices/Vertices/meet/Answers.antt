@@ -1,14 +1,14 @@
 use mathlib.Core.Path.{sym, ◌∙◌}
-use Prim.Native.Nat.{◌<◌}
 use native.Mathlib.Omega.{arith}
-use lib.ListN.{get_or}
+use lib.Dec.{ltb, ltb→lt}
+use Rattle.kep.proofs.ListLaws.{all_each}
 use Rattle.kep.proofs.Rest.{each_here}
 use Rattle.kep.proofs.Tests.{from_true, from_false}
 use Rattle.plans.proofs.Meeting.{meeting_start, meeting_stop, meeting_next, meeting_end}
-use Rattle.plans.proofs.vertices.meet.Goals as goal
+use Rattle.plans.proofs.vertices.Vertices.meet.Goals as goal
 
 pub loop-vertex-init : goal.loop-vertex-init
-loop-vertex-init c = meeting_start c.args.vertices.now c.args.met.0 (omega arith)
+loop-vertex-init c = meeting_start c.args.self.listed.now c.args.met.0 (omega arith)
 
 pub returns-then-has : goal.returns-then-has
 returns-then-has c =
@@ -16,8 +16,8 @@ returns-then-has c =
 
 pub loop-vertex-preserved : goal.loop-vertex-preserved
 loop-vertex-preserved c =
-    let narrow : get_or c.args.vertices.now c.loop-vertex.vertex-index 0 < 16 = each_here c.loop-vertex.vertex-index c.requires c.loop-vertex-test.true in
-    meeting_next c.loop-vertex.invariant c.loop-vertex-test.true narrow (from_false (sym c.has.ensures ∙ c.if-has.false)) c.with-all.ensures
+    let narrow = ltb→lt _ 14 (each_here c.loop-vertex.vertex-index (all_each (λ x. ltb x 14) c.args.self.listed.now c.args.self.below) c.loop-vertex-test.true) in
+    meeting_next c.loop-vertex.invariant c.loop-vertex-test.true (omega (arith, narrow)) (from_false (sym c.has.ensures ∙ c.if-has.false)) c.with-all.ensures
 
 pub returns : goal.returns
 returns c = meeting_end c.loop-vertex.invariant c.loop-vertex-test.false

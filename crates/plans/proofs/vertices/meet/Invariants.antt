@@ -1,5 +1,0 @@
-use Rattle.plans.proofs.Meeting.{Meeting}
-use Rattle.plans.proofs.vertices.meet.Given as goal
-
-abbrev pub invariant-loop-vertex : goal.invariant-loop-vertex
-invariant-loop-vertex l = Meeting l.vertices l.initial.all.0 l.all.0 l.vertex-index
