@@ -1,4 +1,5 @@
 pub mod Record
+pub mod Kind
 pub mod Check
 pub mod CheckCall
 pub mod inner

@@ -4,6 +4,7 @@ ghost use Rattle.pool.specs.Value.{graph_of};
 ghost use Rattle.plans.specs.Check.{joined, ends_right};
 ghost use Rattle.plans.specs.inner.CheckSteps.{Listed, RecordChecked};
 
+use crate::kind::ExchangeKind;
 use crate::record_part::PlanRecord;
 use crate::rules::Rules;
 use crate::vertices::Vertices;
@@ -61,11 +62,10 @@ impl Rules {
     {
         let members = bytes[PlanRecord::SERVED] as usize;
         let chain = vertices.first() < self.pool.altruists;
-        let kind = bytes[PlanRecord::KIND];
-        match kind {
-            67 => chain & (members + 1 == vertices.listed.len()),
-            82 => !chain & (members == vertices.listed.len()),
-            _ => false,
+        match ExchangeKind::try_from(bytes[PlanRecord::KIND]) {
+            Ok(ExchangeKind::Chain) => chain & (members + 1 == vertices.listed.len()),
+            Ok(ExchangeKind::Ring) => !chain & (members == vertices.listed.len()),
+            Err(_) => false,
         }
     }
 }

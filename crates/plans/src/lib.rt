@@ -4,9 +4,11 @@
 mod arcs;
 mod check_record;
 mod checker;
+mod kind;
 mod record_part;
 mod rules;
 mod vertices;
 
 pub use checker::check;
+pub use kind::ExchangeKind;
 pub use record_part::{PlanRecord, record};

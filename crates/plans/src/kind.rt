@@ -1,0 +1,35 @@
+// The kinds of exchanges, each told by byte 14 of its record.
+ghost use Rattle.std.specs.Prelude.{◌≡◌, ◌≢◌, MatchResult};
+ghost use Rattle.pool.specs.declared.refusal.Cause.TheVariants.{PlanEnd};
+ghost use Rattle.plans.specs.Kind.{byte_of};
+
+use pool::Cause;
+
+// A chain, and a cycle (01: ring).
+#[derive(Clone, Copy, PartialEq, Eq)]
+pub enum ExchangeKind {
+    Chain = 67,
+    Ring = 82,
+}
+
+impl ExchangeKind {
+    pub fn byte(self) -> u8
+        ensures { result ≡ byte_of self }
+    {
+        self as u8
+    }
+}
+
+impl TryFrom<u8> for ExchangeKind {
+    type Error = Cause;
+
+    ghost try_from_gives = { λ code r. MatchResult r (λ kind. code ≡ byte_of kind) (λ cause. (cause ≡ PlanEnd) × (code ≢ 67) × (code ≢ 82)) };
+
+    fn try_from(code: u8) -> Result<ExchangeKind, Cause> {
+        match code {
+            67 => Ok(ExchangeKind::Chain),
+            82 => Ok(ExchangeKind::Ring),
+            _ => Err(Cause::PlanEnd),
+        }
+    }
+}
