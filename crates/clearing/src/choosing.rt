@@ -6,8 +6,8 @@ ghost use Rattle.clearing.specs.computed.Cleared.{plan_of, plan_written};
 ghost use Rattle.clearing.specs.inner.Taking.{TablesHold, Clean};
 
 use crate::choice::Choice;
-use crate::chosen_record::WIDTH;
 use crate::seeking::SETS;
+use plans::PlanRecord;
 use pool::{Limits, Pool, all_givers};
 use sets::VertexSet;
 
@@ -24,8 +24,8 @@ impl Choice<'_> {
         let mut records = 0;
         while self.best[free.0 as usize] != 0 {
             if let Some(taken) = self.take_exchange(free, dead) {
-                let at = WIDTH * records;
-                plan[at..at + WIDTH].copy_from_slice(&taken.bytes);
+                let at = PlanRecord::WIDTH * records;
+                plan[at..at + PlanRecord::WIDTH].copy_from_slice(&taken.bytes);
                 records += 1;
                 free = VertexSet(free.0 - taken.set.0);
             } else {

@@ -6,8 +6,8 @@ ghost use Rattle.clearing.specs.Clearing.{cleared_outcome, lent_tests, clearable
 ghost use Rattle.clearing.specs.computed.Cleared.{clear_outcome, exchanges_cleared, best_cleared, plan_cleared};
 
 use crate::choosing::write_plan;
-use crate::chosen_record::WIDTH;
 use exchanges::{fill_exchanges, test_exchanges};
+use plans::PlanRecord;
 use pool::{Cause, Limits, Pool, Refusal};
 use reading::read_pool;
 use tables::{MEMBER, fill_best};
@@ -88,7 +88,7 @@ fn test_lent(
     if best < 1usize << pool.size {
         return Err(Cause::BestTable.into());
     }
-    if plan < WIDTH * pool.size as usize {
+    if plan < PlanRecord::WIDTH * pool.size as usize {
         return Err(Cause::PlanBuffer.into());
     }
     Ok(())

@@ -5,15 +5,15 @@ ghost use Rattle.pool.specs.Value.{graph_of};
 ghost use Rattle.clearing.specs.inner.Taking.{more_by, goal_by, Clean, pool_field, Stepped};
 
 use crate::choice::Choice;
-use crate::chosen_record::{FILLER, KIND_AT, MEMBERS_AT, WIDTH};
 use crate::seeking::{Path, SETS, Step};
+use plans::PlanRecord;
 use sets::VertexSet;
 
 // An exchange that a step takes: its set and its record.
 #[derive(Clone, Copy)]
 pub(crate) struct Taken {
     pub set: VertexSet,
-    pub bytes: [u8; WIDTH],
+    pub bytes: [u8; PlanRecord::WIDTH],
 }
 
 impl Choice<'_> {
@@ -62,11 +62,11 @@ impl Choice<'_> {
             set: VertexSet(0).with(first),
             last: first,
         };
-        let mut bytes = [FILLER; WIDTH];
+        let mut bytes = [PlanRecord::FILLER; PlanRecord::WIDTH];
         bytes[0] = first;
         let set = step.seek(dead, &mut bytes[1..end], path)?;
-        bytes[KIND_AT] = self.kind_of(first).byte();
-        bytes[MEMBERS_AT] = self.members_in(set);
+        bytes[PlanRecord::KIND] = self.kind_of(first).byte();
+        bytes[PlanRecord::SERVED] = self.members_in(set);
         Some(Taken { set, bytes })
     }
 }

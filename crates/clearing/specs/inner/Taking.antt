@@ -9,8 +9,6 @@ use Rattle.pool.specs.Limits.{limits_fit}
 use Rattle.kep.specs.Sets.{Part, set_of}
 use Rattle.kep.specs.inner.Lowest.{lowest}
 use Rattle.pool.specs.Value.{graph_of, pool_fits}
-use Rattle.clearing.specs.declared.chosen_record.Kind.{Kind}
-use Rattle.clearing.specs.declared.chosen_record.Kind.TheVariants.{Chain, Ring}
 use Rattle.clearing.specs.declared.step.Taken.{Taken}
 use Rattle.kep.specs.computed.Table.{entry, best_of}
 use Rattle.tables.specs.Calls.{worth_in}
@@ -33,11 +31,6 @@ pub record Choosing (p : Pool) (l : Limits) (givers_of exchanges best : List ℕ
 -- nothing has failed yet on the free vertices
 pub record Clean (free : ℕ) (dead : List ℕ) : Type 0 where
   pub none : (S : ℕ) → Part S free → 0 < S → get_or dead S 0 ≡ 0
-
--- the byte of a kind in a record
-abbrev pub kind_byte : Kind → ℕ
-kind_byte Chain = 67
-kind_byte Ring = 82
 
 -- the most vertices that may follow the first, by whether that is an altruist: lp in a chain, one less than lc in a cycle
 abbrev pub more_by : Bool → ℕ → ℕ → ℕ
