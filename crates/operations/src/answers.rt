@@ -1,7 +1,7 @@
 // The operations, each with the answer that it tells.
 use crate::input::read_full;
 use clearing::clear_value;
-use plans::record;
+use plans::{PlanRecord, record};
 use pool::{Limits, Pool, Refusal};
 use sets::VertexSet;
 use std::io;
@@ -14,7 +14,7 @@ const PLACES: usize = 14;
 const SETS: usize = 1 << PLACES;
 
 // How many bytes their plan has at most: a record for each place.
-const PLAN: usize = 16 * PLACES;
+const PLAN: usize = PlanRecord::WIDTH * PLACES;
 
 pub(crate) fn try_set(rt: &impl Print, set: VertexSet, v: u8) -> io::Result<()> {
     let (with, without) = (set.with(v).0, set.without(v).0);

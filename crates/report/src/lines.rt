@@ -5,14 +5,12 @@ ghost use Rattle.report.specs.Text.{line_feed, decimal, kind_word, record_line, 
 ghost use Rattle.report.specs.inner.Writing.{pushed};
 
 use crate::text::Text;
+use plans::{ExchangeKind, PlanRecord};
 use pool::Refusal;
-
-// Fills up the places of a record.
-const FILLER: u8 = 255;
 
 impl Text {
     // `served S of M`, and a line for each record.
-    pub(crate) fn push_plan(&mut self, served: u8, members: u8, records: &[[u8; 16]])
+    pub(crate) fn push_plan(&mut self, served: u8, members: u8, records: &[[u8; PlanRecord::WIDTH]])
         ensures text { self.new ≡ pushed self.old (served_line served members ++ record_lines records.now) }
         ensures short { length (served_line served members ++ record_lines records.now) ≤ 18 + 62 * length records.now }
     {
@@ -49,12 +47,15 @@ impl Text {
     }
 
     // `ring` or `chain`, and the places before the first filler, each after one space.
-    fn push_record(&mut self, bytes: &[u8; 16])
+    fn push_record(&mut self, bytes: &[u8; PlanRecord::WIDTH])
         ensures text { self.new ≡ pushed self.old (record_line bytes.now) }
         ensures short { length (record_line bytes.now) ≤ 62 }
     {
-        self.push(kind_word(bytes[14]));
-        for place in bytes[..14].iter().take_while(|place| **place != FILLER) {
+        self.push(kind_word(bytes[PlanRecord::KIND]));
+        for place in bytes[..PlanRecord::KIND]
+            .iter()
+            .take_while(|place| **place != PlanRecord::FILLER)
+        {
             self.push(b" ");
             self.push_number(usize::from(*place));
         }
@@ -66,8 +67,9 @@ impl Text {
 fn kind_word(kind: u8) -> &'static [u8]
     ensures { result.now ≡ kind_word kind }
 {
-    match kind {
-        b'C' => b"chain",
-        _ => b"ring",
+    match ExchangeKind::try_from(kind) {
+        Ok(ExchangeKind::Chain) => b"chain",
+        Ok(ExchangeKind::Ring) => b"ring",
+        Err(_) => b"ring",
     }
 }

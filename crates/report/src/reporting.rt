@@ -7,6 +7,7 @@ ghost use Rattle.report.specs.inner.Writing.{cleared_text};
 
 use crate::text::Text;
 use clearing::clear_value;
+use plans::PlanRecord;
 use pool::{Cause, Limits, Pool, Refusal};
 use reading::{PoolRecord, read_pool};
 
@@ -17,7 +18,7 @@ pub const COUNTED: usize = PoolRecord::WIDTH * (PoolRecord::MOST + 2);
 const SETS: usize = 1 << PoolRecord::MOST;
 
 // How many bytes its plan has at most: a record for each place.
-const PLAN: usize = 16 * PoolRecord::MOST;
+const PLAN: usize = PlanRecord::WIDTH * PoolRecord::MOST;
 
 // Writes the whole text to the front of the buffer and tells its length, if there is room for all of it; 1024 bytes always are enough.
 pub fn report(pool: &[u8], limits: &[u8], out: &mut [u8]) -> Option<usize>
