@@ -1,24 +1,24 @@
 -- The vertices of a record, as code counts them: its first bytes that are vertices of the pool, and only 255 behind them.
-use mathlib.Core.Bool.{true, false, ◌&&◌, and_assoc, and-false}
+use mathlib.Core.Bool.{Bool, true, false, ◌&&◌, and_assoc, and-false}
 use mathlib.Core.List.{List, [], ◌∷◌}
 use mathlib.Core.Logic.{⊎_elim}
 use mathlib.Core.Path.{◌≡◌, refl, sym, ◌∙◌, ap}
 use Prim.Native.Nat.{ℕ, suc, ◌≤◌, ◌<◌}
 use native.Mathlib.Decide.{dec_le, ℕ_discrete}
 use native.Mathlib.Omega.{arith}
-use lib.Dec.{T, ltb, leb, leb→le, lt→ltb, ltb→lt}
+use lib.Dec.{T, eqb, ltb, leb, leb→le, lt→ltb, ltb→lt}
 use lib.ListN.{length, take, drop}
 use lib.Seq.{take_at}
 use borrow.Author.Tests.{lt-ltb, le-ltb, eq-eqb, ne_eqb, le-leb}
 use Rattle.pool.specs.declared.value.Pool.{Pool}
-use Rattle.std.specs.List.{prefix_len}
+use Rattle.std.specs.List.{list_all, prefix_len}
 use Rattle.kep.specs.Lists.{all}
 use Rattle.pool.specs.Value.{graph_of}
 use Rattle.plans.specs.Check.{listed, unlisted, vertices_of, filler_of, all_below, all_filler, lists_vertices}
 use Rattle.plans.specs.inner.CheckSteps.{Listed}
 use Rattle.kep.proofs.Tests.{and_iff₃, from_true, from_false, is_true, is_false, passes?}
 use Rattle.kep.proofs.Each.{each_map}
-use Rattle.kep.proofs.ListLaws.{all_each, each_all, all_cons}
+use Rattle.kep.proofs.ListLaws.{all_each, each_all, all_cons, all_list}
 use Rattle.plans.proofs.Records.{listed_unlisted, listed_filler, listed_vertex}
 
 module _ (s : ℕ) where
@@ -85,12 +85,12 @@ module _ (p : Pool) (r : List ℕ) (small : p.size ≤ 14) (whole : length r ≡
       ap (take n) (sym (listed_unlisted (take 14 r))) ∙ take_at (vertices_of r) (filler_of r) n refl
 
   -- only 255 stands behind these bytes: they are the vertices
-  pub vertices_found : all_filler (drop n (take 14 r)) ≡ true → length (vertices_of r) ≡ n
+  vertices_found : all_filler (drop n (take 14 r)) ≡ true → length (vertices_of r) ≡ n
   unfolding vertices_of
   vertices_found e = rw count ((leading p.size (omega arith) (take 14 r)).long (rw count at e))
 
   -- another byte stands behind them, or none before: the record meets 12
-  pub listed_other : all_filler (drop n (take 14 r)) ≡ false → T (lists_vertices (graph_of p) r) → ⊥
+  listed_other : all_filler (drop n (take 14 r)) ≡ false → T (lists_vertices (graph_of p) r) → ⊥
   listed_other e t = from_false (rw (lists_is, e, and-false (leb 1 (length (vertices_of r))))) t
 
   pub listed_none : n ≡ 0 → T (lists_vertices (graph_of p) r) → ⊥
@@ -98,11 +98,22 @@ module _ (p : Pool) (r : List ℕ) (small : p.size ≤ 14) (whole : length r ≡
       let filler = all_filler (drop n (take 14 r)) in
       ⊎_elim (λ f. omega (arith, passing t, vertices_found (is_true filler f))) (λ f. listed_other (is_false filler f) t) (passes? filler)
 
-  pub listed_part : all_filler (drop n (take 14 r)) ≡ true → 1 ≤ n → Listed p r (take n (take 14 r))
+  listed_part : all_filler (drop n (take 14 r)) ≡ true → 1 ≤ n → Listed p r (take n (take 14 r))
   listed_part e some =
       let long = vertices_found e in
       let t : T (lists_vertices (graph_of p) r) = from_true (rw (lists_is, e, le-leb 1 (length (vertices_of r)) (omega arith)) refl) in
       rw (← long, vertices_part) record { passed = t; vertices = refl }
+
+  -- by the two parts that code splits the places into
+  module _ {xs rest : List ℕ} (front : xs ≡ take n (take 14 r)) (back : rest ≡ drop n (take 14 r)) where
+    filler_is : {b : Bool} → list_all (λ x. eqb x 255) rest ≡ b → all_filler (drop n (take 14 r)) ≡ b
+    filler_is e = ap all_filler (sym back) ∙ sym (all_list (λ x. eqb x 255) rest) ∙ e
+
+    pub parts_other : list_all (λ x. eqb x 255) rest ≡ false → T (lists_vertices (graph_of p) r) → ⊥
+    parts_other e = listed_other (filler_is e)
+
+    pub parts_listed : list_all (λ x. eqb x 255) rest ≡ true → 1 ≤ n → Listed p r xs
+    parts_listed e some = rw front (listed_part (filler_is e) some)
 
 -- the vertices listed are those of a largest pool
 pub listed_below : {p : Pool} {r xs : List ℕ} → p.size ≤ 14 → Listed p r xs → T (all_below 14 xs)

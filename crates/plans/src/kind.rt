@@ -13,6 +13,7 @@ pub enum ExchangeKind {
 }
 
 impl ExchangeKind {
+    // The byte that tells it.
     pub fn byte(self) -> u8
         ensures { result ≡ byte_of self }
     {
@@ -20,6 +21,7 @@ impl ExchangeKind {
     }
 }
 
+// The kind that a byte tells; 17 where it tells none.
 impl TryFrom<u8> for ExchangeKind {
     type Error = Cause;
 

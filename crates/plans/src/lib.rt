@@ -1,4 +1,4 @@
-// Layer three of document 01: plans, but for clearing. Record k of plan bytes, and the checker.
+// Layer three of document 01: plans, but for clearing. The form of a plan record, record k of plan bytes, and the checker.
 #![tactic(auto)]
 
 mod arcs;
