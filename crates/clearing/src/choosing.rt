@@ -20,7 +20,7 @@ impl Choice<'_> {
         ensures records { result ≡ length (plan_of self.now.pool self.now.limits) }
         ensures written { plan.new ≡ plan_written self.now.pool self.now.limits plan.old }
     {
-        let mut free = VertexSet((1 << self.pool.size) - 1);
+        let mut free = VertexSet::below(self.pool.size);
         let mut records = 0;
         while self.best[free.0 as usize] != 0 {
             if let Some(taken) = self.take_exchange(free, dead) {

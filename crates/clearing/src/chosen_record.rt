@@ -24,7 +24,7 @@ impl Choice<'_> {
     pub(crate) fn kind_of(&self, first: u8) -> ExchangeKind
         ensures { byte_of result ≡ kind_of (graph_of self.now.pool) (first ∷ []) }
     {
-        if first < self.pool.altruists {
+        if self.pool.is_altruist(first) {
             ExchangeKind::Chain
         } else {
             ExchangeKind::Ring

@@ -17,15 +17,13 @@ pub(crate) struct Taken {
 }
 
 impl Choice<'_> {
-    // The most vertices that may follow v in an exchange from it on: Lp in a chain, one less than Lc in a cycle.
-    fn more_from(&self, v: u8) -> u8
+    // The most vertices that may follow v in an exchange from it on.
+    fn more_from(&self, v: u8) -> usize
         ensures { result ≡ more_by (ltb v self.now.pool.altruists) self.now.limits.cycle self.now.limits.chain }
     {
-        if v < self.pool.altruists {
-            self.limits.chain
-        } else {
-            self.limits.cycle.saturating_sub(1)
-        }
+        self.limits
+            .most_vertices(self.pool.is_altruist(v))
+            .saturating_sub(1)
     }
 
     // The vertices at which an exchange from v on may end: any in a chain, in a cycle those that give to v.
@@ -33,7 +31,7 @@ impl Choice<'_> {
         requires { v < 14 }
         ensures { result.0 ≡ goal_by (ltb v self.now.pool.altruists) (get_or self.now.givers v 0) }
     {
-        if v < self.pool.altruists {
+        if self.pool.is_altruist(v) {
             VertexSet(u16::MAX)
         } else {
             VertexSet(self.givers[v as usize])
@@ -57,7 +55,7 @@ impl Choice<'_> {
             free,
             goal: self.goal_from(first),
         };
-        let end = 1 + self.more_from(first) as usize;
+        let end = 1 + self.more_from(first);
         let path = Path {
             set: VertexSet(0).with(first),
             last: first,

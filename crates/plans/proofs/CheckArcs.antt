@@ -1,14 +1,17 @@
 -- Laws of code that tests the vertices of an exchange in the pool's graph: arcs (15), length (16), kind and members (17).
-use mathlib.Core.Bool.{Bool, true, false, ◌&&◌, and-true, and_comm}
+use mathlib.Core.Bool.{Bool, true, false, not, ◌&&◌, and-true, and_comm}
 use mathlib.Core.List.{List, [], ◌∷◌}
 use mathlib.Core.Path.{◌≡◌, refl, sym, ◌∙◌, ap}
-use Prim.Native.Nat.{ℕ, ◌+◌, ◌-◌, ◌≤◌, ◌<◌}
+use Prim.Native.Nat.{ℕ, suc, ◌+◌, ◌-◌, ◌≤◌, ◌<◌}
 use native.Mathlib.Omega.{arith}
-use lib.Dec.{T, leb, ltb, ltb→lt}
+use Rattle.std.proofs.lemmas.Bool.Decides.{nat_tests}
+use lib.Dec.{T, eqb, leb, ltb, ltb→lt}
 use lib.ListN.{length, take, drop, get_or, length-drop}
 use lib.Seq.{take_all}
-use borrow.Author.Tests.{lt-ltb, le-ltb, le-leb, lt-leb}
-use Rattle.kep.specs.Graph.{Graph}
+use borrow.Author.Tests.{lt-ltb, le-ltb}
+use Rattle.pool.specs.declared.limits.Limits.{Limits}
+use Rattle.pool.specs.Limits.{most_vertices}
+use Rattle.kep.specs.Graph.{Graph, is_altruist}
 use Rattle.kep.specs.Exchange.{walk, last_of, head_of}
 use Rattle.plans.specs.Check.{all_below, joined, within_limits}
 use Rattle.kep.proofs.Each.{each_first}
@@ -71,21 +74,13 @@ module _ (g : Graph) where
 
 -- ---- its length
 
-module _ (g : Graph) (lc lp : ℕ) where
-  pub limits_cycle : (xs : List ℕ) → 1 ≤ length xs → g.altruists ≤ head_of xs → leb (length xs) lc ≡ within_limits g lc lp xs
-  unfolding head_of within_limits
-  limits_cycle [] some h = absurd (omega arith)
-  limits_cycle (x ∷ xs) some h = rw (le-ltb x g.altruists h, within_limits)
-
-  -- a lone altruist is no exchange
-  pub limits_lone : (xs : List ℕ) → length xs ≡ 1 → head_of xs < g.altruists → false ≡ within_limits g lc lp xs
-  unfolding head_of within_limits
-  limits_lone [] lone h = absurd (omega arith)
-  limits_lone (x ∷ xs) lone h = rw (lt-ltb x g.altruists h, within_limits, lt-leb 1 (length xs) (omega arith))
-
-  pub limits_chain : (xs : List ℕ) → 1 < length xs → head_of xs < g.altruists → leb (length xs - 1) lp ≡ within_limits g lc lp xs
-  unfolding head_of within_limits
-  limits_chain [] some h = absurd (omega arith)
-  limits_chain (x ∷ xs) some h =
-      let back : length (x ∷ xs) - 1 ≡ length xs = omega arith in
-      rw (back, lt-ltb x g.altruists h, within_limits, le-leb 1 (length xs) (omega arith))
+-- as code tests it: at most as many as the limit allows, and no lone altruist
+pub limits_told : (g : Graph) (l : Limits) (xs : List ℕ) → 1 ≤ length xs → {of_chain : Bool} → of_chain ≡ is_altruist g (head_of xs)
+    → (leb (length xs) (most_vertices l of_chain) && not (of_chain && eqb (length xs) 1)) ≡ within_limits g l.cycle l.chain xs
+unfolding head_of within_limits
+limits_told g l [] some e = absurd (omega arith)
+limits_told g l (x ∷ xs) some e = rw (e, within_limits) (go (is_altruist g x) (length xs))
+  where
+    go : (b : Bool) (n : ℕ) → (leb (suc n) (most_vertices l b) && not (b && eqb (suc n) 1)) ≡ (elim b as (λ _. Bool) [ true ↦ leb 1 n && leb n l.chain | false ↦ leb (suc n) l.cycle ])
+    go true n = grind (arith, nat_tests)
+    go false n = and-true _

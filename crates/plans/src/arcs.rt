@@ -27,23 +27,18 @@ impl Rules {
         ensures { result ≡ joined (graph_of self.now.pool) vertices.entry.listed.now }
     {
         let first = vertices.first();
-        if first < self.pool.altruists {
+        if self.pool.is_altruist(first) {
             return self.walks(first, &vertices.listed[1..]);
         }
         self.walks(vertices.last(), vertices.listed)
     }
 
-    // Cause 16: has a chain 1 to Lp members, a cycle at most Lc?
+    // Cause 16: has a chain 1 to Lp members, a cycle at most Lc? A lone house is no chain.
     pub(crate) fn within_limits(&self, vertices: Vertices<'_>) -> bool
         ensures { result ≡ within_limits (graph_of self.now.pool) self.now.limits.cycle self.now.limits.chain vertices.entry.listed.now }
     {
         let count = vertices.listed.len();
-        if self.pool.altruists <= vertices.first() {
-            return count <= self.limits.cycle as usize;
-        }
-        if count == 1 {
-            return false;
-        }
-        count - 1 <= self.limits.chain as usize
+        let of_chain = self.pool.is_altruist(vertices.first());
+        (count <= self.limits.most_vertices(of_chain)) & !(of_chain & (count == 1))
     }
 }

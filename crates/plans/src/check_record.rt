@@ -61,10 +61,10 @@ impl Rules {
         ensures { result ≡ ends_right (graph_of self.now.pool) bytes.now }
     {
         let members = bytes[PlanRecord::SERVED] as usize;
-        let chain = vertices.first() < self.pool.altruists;
+        let of_chain = self.pool.is_altruist(vertices.first());
         match ExchangeKind::try_from(bytes[PlanRecord::KIND]) {
-            Ok(ExchangeKind::Chain) => chain & (members + 1 == vertices.listed.len()),
-            Ok(ExchangeKind::Ring) => !chain & (members == vertices.listed.len()),
+            Ok(ExchangeKind::Chain) => of_chain & (members + 1 == vertices.listed.len()),
+            Ok(ExchangeKind::Ring) => !of_chain & (members == vertices.listed.len()),
             Err(_) => false,
         }
     }

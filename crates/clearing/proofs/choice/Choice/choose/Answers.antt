@@ -13,7 +13,7 @@ use Rattle.kep.specs.inner.Lowest.{lowest}
 use Rattle.kep.specs.computed.Table.{best_of}
 use Rattle.kep.specs.Plan.{FitRecords}
 use Rattle.tables.specs.Calls.{worth_in}
-use Rattle.kep.proofs.Operations.{one_shl}
+use Rattle.kep.proofs.Operations.{below_set}
 use Rattle.kep.proofs.ExchangeFacts.{small_fits}
 use Rattle.pool.proofs.ValueLaws.{fits_size, entries_few}
 use Rattle.clearing.specs.declared.step.Taken.{Taken}
@@ -59,7 +59,8 @@ pub loop-free-init : goal.loop-free-init
 loop-free-init c =
     let s = c.args.self.now in
     let small = fits_size s.pool s.choosing.fits in
-    rw (one_shl 16 s.pool.size (omega (arith, small)))
+    let n = s.pool.size in
+    rw (c.below-free.ensures ∙ below_set 16 n n (omega (arith, small)) (λ u l. (λ h. h, λ h. h)))
     (record { made = made_start (graph_of s.pool) s.limits.cycle s.limits.chain (small_fits small) (worth_in s.pool) c.args.plan.now; clean = c.requires.clean })
 
 pub bounds-self-free : goal.bounds-self-free
@@ -71,8 +72,8 @@ take_exchange-requires-clause-some c = nonempty c.args.self.now.choosing c.loop-
 pub slice_bounds-copy_from_slice-end : goal.slice_bounds-copy_from_slice-end
 slice_bounds-copy_from_slice-end c = part_end (room c.args.self.now.choosing c.loop-free.invariant.made c.loop-free-test.true) c.requires.room c.loop-free.auto.plan
 
-pub overflow_sub-free-in-Some : goal.overflow_sub-free-in-Some
-overflow_sub-free-in-Some c =
+pub overflow_sub-free : goal.overflow_sub-free
+overflow_sub-free c =
     let t = c.take_exchange.ensures in
     omega (arith, (goes_on c.args.self.now.choosing c.loop-free.invariant.made c.loop-free-test.true t.stepped t.clean c.in-Some.is).0)
 

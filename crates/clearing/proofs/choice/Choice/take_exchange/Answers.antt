@@ -24,7 +24,7 @@ pub seek-requires : goal.seek-requires
 seek-requires c =
     let r = c.requires in
     let k = c.args.self.now.choosing in
-    starts k r.some r.inside c.lowest-first.ensures c.goal_from.ensures c.with.ensures (part_long k r.some r.inside c.lowest-first.ensures c.more_from.ensures) r.clean
+    starts k r.some r.inside c.lowest-first.ensures c.goal_from.ensures c.with.ensures (part_long k r.some r.inside c.lowest-first.ensures c.more_from-end.ensures) r.clean
 
 pub returns-in_err-set : goal.returns-in_err-set
 returns-in_err-set c =
@@ -38,7 +38,7 @@ returns c =
     let r = c.requires in
     let e = c.seek.ensures in
     let (clean, stepped) =
-    one_taken c.args.self.now.choosing r.some r.inside c.lowest-first.ensures c.goal_from.ensures c.with.ensures r.clean e.kept e.sought c.more_from.ensures refl
+    one_taken c.args.self.now.choosing r.some r.inside c.lowest-first.ensures c.goal_from.ensures c.with.ensures r.clean e.kept e.sought c.more_from-end.ensures refl
     c.in_ok-set.was (c.byte.ensures ∙ c.kind_of.ensures) c.members_in.ensures
     in
     record { clean = clean; stepped = stepped }

@@ -1,16 +1,17 @@
-use native.Mathlib.Omega.{arith}
-use mathlib.Core.Path.{◌∙◌, ap}
+use borrow.Author.Tests.{ltb-true, ltb-false}
+use mathlib.Core.Path.{◌∙◌, ap, sym}
 use Rattle.pool.specs.Value.{graph_of}
 use Rattle.kep.specs.Exchange.{walk}
 use Rattle.plans.proofs.CheckArcs.{tail_part, joined_chain, joined_cycle}
 use Rattle.plans.proofs.rules.Rules.all_joined.Goals as goal
 
-pub returns-then-first-self : goal.returns-then-first-self
-returns-then-first-self c =
+pub returns-then-is_altruist : goal.returns-then-is_altruist
+returns-then-is_altruist c =
     let xs = c.args.vertices.listed.now in
     c.walks.ensures
-    ∙ rw c.first-first.ensures.value (ap (walk _ _) (tail_part xs) ∙ joined_chain (graph_of c.args.self.now.pool) xs c.args.vertices.some (omega arith))
+    ∙ rw c.first-first.ensures.value (ap (walk _ _) (tail_part xs) ∙ joined_chain (graph_of c.args.self.now.pool) xs c.args.vertices.some (rw c.first-first.ensures.value at (ltb-true _ _ (sym c.is_altruist.ensures ∙ c.if-is_altruist.true))))
 
 pub returns : goal.returns
 returns c =
-    c.walks-2.ensures ∙ rw c.last.ensures (joined_cycle (graph_of c.args.self.now.pool) c.args.vertices.listed.now c.args.vertices.some (omega arith))
+    c.walks-2.ensures ∙ rw c.last.ensures (joined_cycle (graph_of c.args.self.now.pool) c.args.vertices.listed.now c.args.vertices.some
+    (rw c.first-first.ensures.value at (ltb-false _ _ (sym c.is_altruist.ensures ∙ c.if-is_altruist.false))))

@@ -1,18 +1,12 @@
-use native.Mathlib.Omega.{arith}
+use mathlib.Core.Path.{ap, ◌∙◌}
+use Rattle.kep.specs.Graph.{is_altruist}
 use Rattle.pool.specs.Value.{graph_of}
-use Rattle.plans.proofs.CheckArcs.{limits_cycle, limits_lone, limits_chain}
+use Rattle.plans.proofs.CheckArcs.{limits_told}
 use Rattle.plans.proofs.rules.Rules.within_limits.Goals as goal
-
-pub returns-then-self-first : goal.returns-then-self-first
-returns-then-self-first c =
-    limits_cycle (graph_of c.args.self.now.pool) c.args.self.now.limits.cycle c.args.self.now.limits.chain c.args.vertices.listed.now c.args.vertices.some (omega arith)
-
-pub returns-then-count-eq1 : goal.returns-then-count-eq1
-returns-then-count-eq1 c =
-    let a = c.args in
-    limits_lone (graph_of a.self.now.pool) a.self.now.limits.cycle a.self.now.limits.chain a.vertices.listed.now c.if-count-eq1.true (omega arith)
 
 pub returns : goal.returns
 returns c =
-    let a = c.args in
-    limits_chain (graph_of a.self.now.pool) a.self.now.limits.cycle a.self.now.limits.chain a.vertices.listed.now (omega arith) (omega arith)
+    let s = c.args.self.now in
+    rw c.most_vertices.ensures.most
+    (limits_told (graph_of s.pool) s.limits c.args.vertices.listed.now c.args.vertices.some
+    (c.is_altruist-of_chain.ensures ∙ ap (is_altruist (graph_of s.pool)) c.first.ensures.value))
