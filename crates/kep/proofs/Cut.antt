@@ -1,11 +1,11 @@
 -- Bytes cut into records.
 use mathlib.Core.List.{List, [], ◌∷◌}
 use mathlib.Core.Path.{◌≡◌, refl, ap, sym, ◌∙◌}
-use Prim.Native.Nat.{ℕ, zero, suc, ◌+◌, ◌-◌, ◌*◌, ◌≤◌, ◌<◌}
+use Prim.Native.Nat.{ℕ, zero, suc, ◌+◌, ◌-◌, ◌*◌, ◌<◌}
 use native.Mathlib.Nat.{mul-suc, mul-zero}
 use native.Mathlib.Omega.{arith}
-use lib.ListN.{length, get_or, take, drop, length-drop}
-use lib.Seq.{drop-drop, length-take-le}
+use lib.ListN.{length, get_or, take, drop}
+use lib.Seq.{drop-drop}
 use Rattle.std.specs.Simd.{first_chunks}
 use Rattle.kep.specs.Lists.{cut}
 
@@ -53,6 +53,3 @@ part w i bytes = let width : w * i + w - w * i ≡ w = omega arith in ap (λ k. 
 -- which is record i
 pub record_part_lem : (w n i : ℕ) (bytes : List ℕ) → i < n → take (w * i + w - w * i) (drop (w * i) bytes) ≡ get_or (cut w n bytes) i []
 record_part_lem w n i bytes h = part w i bytes ∙ sym (get_d_cut w n i bytes h)
-
-pub part_length : (w i : ℕ) (bytes : List ℕ) → w * suc i ≤ length bytes → length (take w (drop (w * i) bytes)) ≡ w
-part_length w i bytes h = length-take-le w (drop (w * i) bytes) (omega (arith, length-drop (w * i) bytes, mul-suc w i))
