@@ -51,7 +51,7 @@ impl Step<'_> {
         }
         let all = self.free.0 as usize;
         let rest = all - here;
-        best[here] as u64 + best[rest] as u64 == best[all] as u64
+        u64::from(best[here]) + u64::from(best[rest]) == u64::from(best[all])
     }
 
     // The vertices to try next, where at most `more` may follow: those that the last gives to and that are free beside the path,

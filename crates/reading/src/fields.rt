@@ -35,7 +35,7 @@ pub(crate) fn taken(bytes: &Record) -> u32
 {
     let low = pair(bytes, PoolRecord::TAKEN);
     let high = pair(bytes, PoolRecord::TAKEN + 2);
-    low as u32 + 65536 * high as u32
+    u32::from(low) + 65536 * u32::from(high)
 }
 
 // The weeks waited.
