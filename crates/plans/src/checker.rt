@@ -36,10 +36,9 @@ impl Rules {
             served: 0,
         };
         for (at, record) in records.iter().enumerate() {
-            before = match self.check_record(before, record) {
-                Ok(next) => next,
-                Err(cause) => return Err(Refusal { cause, at }),
-            };
+            before = self
+                .check_record(before, record)
+                .map_err(|cause| Refusal { cause, at })?;
         }
         Ok(before.served)
     }

@@ -1,11 +1,13 @@
 -- Laws of tests made in order: where one passes and where one fails, and how a call goes by the outcome of another.
 use mathlib.Core.Bool.{Bool, true, false}
 use mathlib.Core.List.{List, [], ◌∷◌, ◌++◌}
-use mathlib.Core.Path.{◌≡◌, refl, sym, ap, ◌∙◌}
+use mathlib.Core.Path.{◌≡◌, refl, sym, ap, subst, ◌∙◌}
 use Prim.Native.Nat.{ℕ}
 use native.Mathlib.Omega.{arith}
 use lib.Dec.{T}
-use Rattle.std.specs.Prelude.{Result, Ok, Err}
+use Rattle.std.specs.Prelude.{Result, Ok, Err, MatchResult}
+use Rattle.std.specs.Result.{IsErrAnd}
+use Rattle.pool.specs.declared.refusal.Cause.{Cause}
 use Rattle.pool.specs.declared.refusal.Refusal.{Refusal}
 use Rattle.kep.specs.Lists.{Each, none, also}
 use Rattle.pool.specs.Causes.{Pass}
@@ -47,6 +49,22 @@ not_both {a = a} {n = n} {at = at} e = let z : ◌≡◌ {A = ℕ} 0 1 = cc in o
 pub accepts : {A : Type 0} (r : Result A Refusal) {a : A} → outcome r ≡ accepted a → r ≡ Ok a
 accepts (Ok b) e = cc
 accepts (Err r) e = absurd (not_both (sym e))
+
+-- a result whose cause `map_err` told with a spot, by what was learnt of its closure
+module _ {A : Type 0} (r : Result A Cause) {m : Result A Refusal} (Q : Cause → Refusal → Type 0) (h : MatchResult r (λ x. m ≡ Ok x) (λ e. IsErrAnd m (Q e))) where
+  pub spot_ok : {x : A} → m ≡ Ok x → r ≡ Ok x
+  spot_ok q = go r h q
+    where
+      go : {x : A} (r : Result A Cause) → MatchResult r (λ x. m ≡ Ok x) (λ e. IsErrAnd m (Q e)) → m ≡ Ok x → r ≡ Ok x
+      go (Ok y) h q = ap Ok (let same : ◌≡◌ {A = Result A Refusal} (Ok y) (Ok _) = sym h ∙ q in cc)
+      go {x} (Err e) h q = absurd (subst (λ n. IsErrAnd n (Q e)) q h)
+
+  pub spot_err : {d : Refusal} → m ≡ Err d → (e : Cause) × (r ≡ Err e) × Q e d
+  spot_err q = go r h q
+    where
+      go : {d : Refusal} (r : Result A Cause) → MatchResult r (λ x. m ≡ Ok x) (λ e. IsErrAnd m (Q e)) → m ≡ Err d → (e : Cause) × (r ≡ Err e) × Q e d
+      go (Ok y) h q = let e : ◌≡◌ {A = Result A Refusal} (Ok y) (Err _) = sym h ∙ q in cc
+      go (Err e) h q = (e, refl, subst (λ n. IsErrAnd n (Q e)) q h)
 
 -- what follows the rest follows the tests
 pub tested_then : {A B : Type 0} (ts : List (ℕ × Bool)) (at : ℕ) (o : Outcome A) (f : A → Outcome B) → tested ts at (and_then o f) ≡ and_then (tested ts at o) f

@@ -29,10 +29,7 @@ impl Places<'_> {
         let mut houses = 0;
         let mut houses_only = true;
         for (at, record) in self.records.iter().enumerate() {
-            let kind = match read_record(record, houses_only) {
-                Ok(kind) => kind,
-                Err(cause) => return Err(Refusal { cause, at }),
-            };
+            let kind = read_record(record, houses_only).map_err(|cause| Refusal { cause, at })?;
             match kind {
                 Kind::House => houses += 1,
                 Kind::Member => houses_only = false,
