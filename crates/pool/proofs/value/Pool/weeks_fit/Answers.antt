@@ -1,13 +1,8 @@
 use borrow.Author.Rules.{rules}
-use mathlib.Core.Bool.{Bool, true, false}
-use mathlib.Core.Path.{◌≡◌, refl}
-use Prim.Native.Nat.{ℕ}
-use lib.Dec.{T, leb, ltb}
+use lib.Dec.{leb, ltb}
 use lib.ListN.{get_or}
-use Rattle.std.proofs.lemmas.Iterator.{cases_from_all, YieldsList-from_range}
 use Rattle.kep.specs.Sets.{counted}
-use Rattle.kep.proofs.OverRange.{all_below_range}
-use Rattle.kep.proofs.Tests.{from_true, from_false}
+use Rattle.kep.proofs.OverRange.{all_below}
 use Rattle.pool.specs.Value.{weeks_fit, most_weeks_waited}
 use Rattle.pool.proofs.value.Pool.weeks_fit.Goals as goal
 
@@ -15,8 +10,4 @@ pub returns : goal.returns
 unfolding weeks_fit
 returns c =
     let pool = c.args.self.now in
-    let p : ℕ → Bool = λ v. leb (get_or pool.weeks v 0) (counted (ltb v pool.size) most_weeks_waited) in
-    all_below_range p 14 c.all.result
-    (cases_from_all _ _ _ (λ v. T (p v)) (λ v. T (p v) → ⊥) c.all.ensures.ran (YieldsList-from_range 0 14 14 refl refl)
-    (λ v q k. let e : p v ≡ true = search rules in (search rules, from_true e))
-    (λ v q k. let e : p v ≡ false = search rules in from_false e))
+    all_below (λ v. leb (get_or pool.weeks v 0) (counted (ltb v pool.size) most_weeks_waited)) _ (λ v b q k. search rules) 14 c.all.ensures.ran
