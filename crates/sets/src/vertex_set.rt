@@ -3,7 +3,7 @@ ghost use Rattle.std.specs.Prelude.{◌≡◌, ◌^◌, ltb};
 ghost use Rattle.kep.specs.Sets.{has as has_vertex, counted, lowest_below, set_where, size_below, with_vertex, without_vertex};
 
 // The sum of 2 to the power v over the vertices v of the set.
-#[derive(Clone, Copy)]
+#[derive(Clone, Copy, Debug, PartialEq, Eq)]
 pub struct VertexSet(pub u16);
 
 impl VertexSet {
