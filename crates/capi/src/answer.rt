@@ -1,5 +1,5 @@
 // What a call answers to C.
-ghost use Rattle.std.specs.Prelude.{◌≡◌};
+ghost use Rattle.std.specs.Prelude.{◌≡◌, MatchResult};
 ghost use Rattle.pool.specs.Refusals.{number_of};
 ghost use Rattle.capi.specs.Answers.{accepted_with, refused_with};
 
@@ -38,6 +38,18 @@ impl From<Refusal> for Answer {
             at: refusal.at as u64,
             first: 0,
             second: 0,
+        }
+    }
+}
+
+// A call that gives back two numbers answers with them, and one that refuses with its refusal.
+impl From<Result<(u64, u64), Refusal>> for Answer {
+    ghost from_gives = { λ ended answer. MatchResult ended (λ numbers. answer ≡ accepted_with numbers.0 numbers.1) (λ refusal. answer ≡ refused_with (number_of refusal.cause) refusal.at) };
+
+    fn from(ended: Result<(u64, u64), Refusal>) -> Answer {
+        match ended {
+            Ok((first, second)) => Answer::accepted(first, second),
+            Err(refusal) => refusal.into(),
         }
     }
 }

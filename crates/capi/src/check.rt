@@ -16,8 +16,7 @@ pub extern "C" fn swap_check(pool: &[u8], lc: u8, lp: u8, plan: &[u8]) -> Answer
         cycle: lc,
         chain: lp,
     };
-    match plans::check(pool, limits, plan) {
-        Ok(served) => Answer::accepted(u64::from(served), 0),
-        Err(refusal) => refusal.into(),
-    }
+    plans::check(pool, limits, plan)
+        .map(|served| (u64::from(served), 0))
+        .into()
 }

@@ -27,8 +27,7 @@ pub extern "C" fn swap_clear(
         cycle: lc,
         chain: lp,
     };
-    match clearing::clear(pool, limits, exchanges, best, plan) {
-        Ok(cleared) => Answer::accepted(u64::from(cleared.served), cleared.records as u64),
-        Err(refusal) => refusal.into(),
-    }
+    clearing::clear(pool, limits, exchanges, best, plan)
+        .map(|cleared| (u64::from(cleared.served), cleared.records as u64))
+        .into()
 }

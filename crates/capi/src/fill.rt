@@ -63,8 +63,5 @@ fn pool_from(places: u8, houses: u8, gives: &[u16; 14], weeks: &[u16; 14]) -> Po
 fn answer_filled(filled: Result<usize, Refusal>) -> Answer
     ensures { result ≡ count_answer (outcome filled) }
 {
-    match filled {
-        Ok(entries) => Answer::accepted(entries as u64, 0),
-        Err(refusal) => refusal.into(),
-    }
+    filled.map(|entries| (entries as u64, 0)).into()
 }
