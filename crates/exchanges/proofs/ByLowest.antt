@@ -44,7 +44,6 @@ begins_alone l = record { remainder = mod-eq_of_lt (omega (arith, pow_pos l)) }
 pub record Numbers (l n : ℕ) : Type 0 where
   pub first : 1 * 2 ^ l % 2 ^ 64 ≡ 2 ^ l
   pub stride : 2 * (1 * 2 ^ l % 2 ^ 64) ≡ 2 ^ suc l
-  pub sets : 1 * 2 ^ n % 2 ^ 64 ≡ 2 ^ n
   pub some : 0 < 2 ^ l
   pub inside : 2 ^ suc l ≤ 2 ^ n
   pub few : 2 ^ n ≤ 2 ^ 14
@@ -52,7 +51,7 @@ pub record Numbers (l n : ℕ) : Type 0 where
 pub numbers_are : {l n : ℕ} → l < n → n ≤ 14 → Numbers l n
 numbers_are {l} {n} h few =
     let first : 1 * 2 ^ l % 2 ^ 64 ≡ 2 ^ l = one_shl 64 l (omega arith) in
-    record { first = first; some = pow_pos l; stride = omega arith; sets = one_shl 64 n (omega arith); inside = pow_mono h; few = pow_mono few }
+    record { first = first; some = pow_pos l; stride = omega arith; inside = pow_mono h; few = pow_mono few }
 
 module _ {l s : ℕ} (b : Begins l s) where
   pub begins_next : Begins l (s + 2 ^ suc l)

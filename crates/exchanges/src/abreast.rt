@@ -18,8 +18,7 @@ impl Filling {
         requires room { 2 ^ self.now.pool.size ≤ length table.old }
         ensures { Changed (λ i. i ≡ i) (2 ^ self.now.pool.size) (ends_of (graph_of self.now.pool)) table.old table.new }
     {
-        let sets = 1usize << self.pool.size;
-        for base in (0..sets).step_by(8) {
+        for base in (0..self.sets()).step_by(8) {
             let eight = self.common_ends(base, table);
             let found = self.all_ends(base, eight);
             store_eight(base, found, table);

@@ -54,7 +54,7 @@ impl Filling {
         requires room { 2 ^ self.now.pool.size ≤ length table.old }
         ensures { table.new ≡ written_to (entry_of self.now.pool self.now.limits) (2 ^ self.now.pool.size) table.old }
     {
-        clear_table(1usize << self.pool.size, table);
+        clear_table(self.sets(), table);
         for low in 0..self.pool.size {
             self.fill_exchanges_from(low, table);
         }
@@ -94,7 +94,7 @@ impl Filling {
         } else {
             Some(most)
         };
-        keep_ends(self.pool.size, low, counted, self.closing_of(low), table);
+        self.keep_ends(low, counted, self.closing_of(low), table);
     }
 
     // The same entries where the table has nothing for them yet.
@@ -109,7 +109,7 @@ impl Filling {
             // Every path is a chain but that of the altruist alone.
             table[1usize << low] = 0;
         } else {
-            keep_ends(self.pool.size, low, None, self.closing_of(low), table);
+            self.keep_ends(low, None, self.closing_of(low), table);
         }
     }
 
@@ -121,7 +121,7 @@ impl Filling {
         ensures { Changed (Begins low) (2 ^ self.now.pool.size) (ends_within (graph_of self.now.pool) most) table.old table.new }
     {
         let first = 1usize << low;
-        let sets = 1usize << self.pool.size;
+        let sets = self.sets();
         if most == 0 {
             return;
         }
@@ -131,6 +131,19 @@ impl Filling {
         while set < sets {
             table[set] = self.path_ends(set, first, table);
             set = next_allowed(set, first, most);
+        }
+    }
+
+    // Pass two for the sets that begin at `low`: of the ends those in the closing set, where a set has at most so many vertices. With no
+    // limit the vertices are not counted.
+    fn keep_ends(&self, low: u8, most: Option<usize>, closing: u16, table: &mut [u16])
+        requires room { 2 ^ self.now.pool.size ≤ length table.old }
+        requires in_pool { low < self.now.pool.size }
+        ensures { Changed (Begins low) (2 ^ self.now.pool.size) (kept_of most closing table.old) table.old table.new }
+    {
+        let first = 1usize << low;
+        for set in (first..self.sets()).step_by(2 * first) {
+            table[set] &= closing_within(set, most, closing);
         }
     }
 }
@@ -156,20 +169,6 @@ fn next_allowed(set: usize, first: usize, most: usize) -> usize
     let others = set - first;
     let rest = (others - 1) & others;
     set + (others - rest)
-}
-
-// Pass two for the sets that begin at `low`: of the ends those in the closing set, where a set has at most so many vertices. With no
-// limit the vertices are not counted.
-fn keep_ends(size: u8, low: u8, most: Option<usize>, closing: u16, table: &mut [u16])
-    requires size_bound { size ≤ 14 }
-    requires room { 2 ^ size ≤ length table.old }
-    requires in_pool { low < size }
-    ensures { Changed (Begins low) (2 ^ size) (kept_of most closing table.old) table.old table.new }
-{
-    let first = 1usize << low;
-    for set in (first..1usize << size).step_by(2 * first) {
-        table[set] &= closing_within(set, most, closing);
-    }
 }
 
 // The closing set, if there is no limit, or the set has at most so many vertices.

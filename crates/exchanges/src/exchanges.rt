@@ -14,8 +14,9 @@ pub fn fill_exchanges(pool: Pool, limits: Limits, table: &mut [u16]) -> Result<u
     ensures left { table.new ≡ exchanges_left pool limits table.old }
 {
     test_exchanges(pool, limits, table.len())?;
-    Filling::new(pool, limits).fill_by_lowest(table);
-    Ok(1usize << pool.size)
+    let filling = Filling::new(pool, limits);
+    filling.fill_by_lowest(table);
+    Ok(filling.sets())
 }
 
 // Causes 6, 7 and 8, by the length of the table.

@@ -1,5 +1,5 @@
 // What one filling of the exchange table goes by.
-ghost use Rattle.std.specs.Prelude.{◌≡◌, IsTrue};
+ghost use Rattle.std.specs.Prelude.{◌≡◌, ◌^◌, IsTrue};
 ghost use Rattle.kep.specs.Lists.{tabulate};
 ghost use Rattle.kep.specs.Graph.{givers as giver_set};
 ghost use Rattle.pool.specs.Value.{graph_of, pool_fits};
@@ -29,5 +29,12 @@ impl Filling {
             limits,
             givers,
         }
+    }
+
+    // The number of sets of vertices, each with its entry.
+    pub(crate) fn sets(&self) -> usize
+        ensures { result ≡ 2 ^ self.now.pool.size }
+    {
+        1usize << self.pool.size
     }
 }

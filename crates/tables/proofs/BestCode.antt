@@ -2,7 +2,7 @@
 use mathlib.Core.Bool.{Bool}
 use mathlib.Core.List.{List, ◌++◌}
 use mathlib.Core.Path.{◌≡◌, refl, sym, ap, ap₂, fun_ext, ◌∙◌}
-use Prim.Native.Nat.{ℕ, ◌+◌, ◌-◌, ◌*◌, ◌%◌, ◌^◌, ◌≤◌, ◌<◌}
+use Prim.Native.Nat.{ℕ, ◌+◌, ◌-◌, ◌^◌, ◌≤◌, ◌<◌}
 use native.Mathlib.Nat.{mul-le-mul_right}
 use native.Mathlib.Omega.{arith}
 use lib.Bits.{bit_and}
@@ -25,7 +25,6 @@ use Rattle.pool.proofs.ValueLaws.{fits_size, fits_weeks}
 use Rattle.kep.specs.computed.Table.{best}
 use Rattle.kep.specs.inner.BestFilling.{Worths, worth_by, offer, best_offered}
 use Rattle.tables.specs.Calls.{marked, worth_in, set_worth}
-use Rattle.kep.proofs.Operations.{one_shl}
 use Rattle.kep.proofs.LowestBit.{lowest_le, lowest_out, trailing_is}
 use Rattle.kep.proofs.SetLaws.{has_below, lowest_is}
 use Rattle.kep.proofs.Tables.{length_tabulate, get_d_tabulate, get_d_whole, tabulate_below, tabulate_store}
@@ -36,10 +35,6 @@ use Rattle.kep.proofs.BestFilling.{offered_best}
 -- ---- the worths of sets
 
 module _ {size : ℕ} {each : List ℕ} (worths : Worths size each) where
-  -- the number of the sets, as code works it out
-  pub sets_are : 1 * 2 ^ size % 2 ^ 64 ≡ 2 ^ size
-  sets_are = one_shl 64 size (omega (arith, worths.few))
-
   -- the first store: the empty set is worth nothing
   pub worth_first : (table : List ℕ) → 0 < length table → set table 0 0 ≡ written_to (worth_by each size) 1 (set table 0 0)
   unfolding tabulate

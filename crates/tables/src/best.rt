@@ -23,8 +23,9 @@ pub fn fill_best(pool: Pool, exchanges: &[u16], table: &mut [u32]) -> Result<usi
     if table.len() < entries {
         return Err(Cause::BestTable.into());
     }
-    VertexWorths::new(pool).fill_best(exchanges, table);
-    Ok(entries)
+    let worths = VertexWorths::new(pool);
+    worths.fill_best(exchanges, table);
+    Ok(worths.entries())
 }
 
 impl VertexWorths {
@@ -50,7 +51,7 @@ impl VertexWorths {
         requires table_long { 2 ^ self.now.size ≤ length table.old }
         ensures { table.new ≡ written_to (best (worth_by self.now.each self.now.size) (marked exchanges.now)) (2 ^ self.now.size) table.old }
     {
-        let entries = 1usize << self.size;
+        let entries = self.entries();
         let mut offers = [0u32; OFFERS];
         self.fill_worths(table);
         fill_offers(entries, exchanges, table, &mut offers);

@@ -32,13 +32,20 @@ impl VertexWorths {
         }
     }
 
+    // The number of sets of vertices.
+    pub(crate) fn entries(&self) -> usize
+        ensures { result ≡ 2 ^ self.now.size }
+    {
+        1usize << self.size
+    }
+
     // The worth of every set, by that of the set without its lowest vertex.
     pub(crate) fn fill_worths(&self, table: &mut [u32])
         requires { 2 ^ self.now.size ≤ length table.old }
         ensures { table.new ≡ written_to (worth_by self.now.each self.now.size) (2 ^ self.now.size) table.old }
     {
         table[0] = 0;
-        for s in 1..1usize << self.size {
+        for s in 1..self.entries() {
             let v = s.trailing_zeros() as usize;
             table[s] = table[(s - 1) & s] + self.each[v];
         }

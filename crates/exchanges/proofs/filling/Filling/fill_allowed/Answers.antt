@@ -40,11 +40,9 @@ record Turn (g : Graph) (l n cap : ℕ) (d : List ℕ) (s : ℕ) (t : List ℕ) 
   pub allowed : Allowed l cap s
   pub filled : Changed (λ i. (i < 2 ^ n) × Begins l i) s (ends_within g cap) (set d (2 ^ l) (2 ^ l)) t
 
-turn : {g : Graph} {l n cap : ℕ} {d : List ℕ} {s : ℕ} {t : List ℕ} → Begun g l n cap d → s < 1 * 2 ^ n % 2 ^ 64
+turn : {g : Graph} {l n cap : ℕ} {d : List ℕ} {s : ℕ} {t : List ℕ} → Begun g l n cap d → s < 2 ^ n
     → (s < 2 ^ n → Allowed l cap s) × Changed (λ i. (i < 2 ^ n) × Begins l i) s (ends_within g cap) (set d (1 * 2 ^ l % 2 ^ 64) (1 * 2 ^ l % 2 ^ 64)) t → Turn g l n cap d s t
-turn {n = n} {s = s} b less (allowed, filled) =
-    let small : s < 2 ^ n = omega (arith, b.numbers.sets) in
-    record { small = small; allowed = allowed small; filled = rw b.numbers.first at filled }
+turn b small (allowed, filled) = record { small = small; allowed = allowed small; filled = rw b.numbers.first at filled }
 
 pub bounds-table-first : goal.bounds-table-first
 bounds-table-first c = omega (arith, pow-lt c.requires.in_pool)
@@ -62,7 +60,7 @@ loop-set-init c =
     let n = b.numbers in
     let (allowed, many) = first_set {l = a.low} {cap = a.most} {n = 2 ^ f.pool.size} {set = c.if-most-eq1.set}
     (elim c.if-most-eq1.branch [
-      | then-most-eq1 w ↦ inl (w.if-most-eq1.true, w.set-is ∙ n.sets)
+      | then-most-eq1 w ↦ inl (w.if-most-eq1.true, w.set-is ∙ c.sets-sets.ensures)
       | else-most-eq1 w ↦ inr (omega (arith, w.if-most-eq1.false, c.if-most-eq0.false), w.set-is ∙ omega (arith, n))
     ]) in
     (allowed, rw n.first (begun_start (graph_of f.pool) a.low f.pool.size a.most b.room b.alone c.if-most-eq1.set many))
@@ -72,7 +70,7 @@ path_ends-requires c =
     let a = c.args in
     let f = a.self.now in
     let b = begun f c.requires.in_pool c.requires.room c.requires.held c.if-most-eq0.false in
-    let s = turn b c.loop-set-test.true c.loop-set.invariant in
+    let s = turn b (omega arith) c.loop-set.invariant in
     let first = b.numbers.first in
     record {
       set_in_pool = s.small;
@@ -90,7 +88,7 @@ loop-set-preserved c =
     let a = c.args in
     let f = a.self.now in
     let b = begun f c.requires.in_pool c.requires.room c.requires.held c.if-most-eq0.false in
-    let s = turn b c.loop-set-test.true c.loop-set.invariant in
+    let s = turn b (omega arith) c.loop-set.invariant in
     let next = c.next_allowed-set.ensures a.low b.numbers.first s.allowed in (
       λ _. next_allowed s.allowed next,
       rw b.numbers.first (begun_more (graph_of f.pool) a.low f.pool.size a.most b.room b.alone s.small s.allowed s.filled c.path_ends.ensures next),
@@ -102,4 +100,4 @@ returns c =
     let f = a.self.now in
     let n = numbers_are c.requires.in_pool (few f) in
     put_changed (graph_of f.pool) a.low f.pool.size a.most a.table.now c.requires.in_pool
-    (changed_end (2 ^ f.pool.size) (rw n.first at c.loop-set.invariant.1) (omega (arith, n.sets, c.loop-set-test.false)))
+    (changed_end (2 ^ f.pool.size) (rw n.first at c.loop-set.invariant.1) (omega (arith, c.loop-set-test.false)))

@@ -10,4 +10,4 @@ invariant-loop-base l =
     (l.base % 8 ≡ 0) × (l.base ≤ 2 ^ l.self.pool.size) × Changed (λ i. i ≡ i) l.base (ends (graph_of l.self.pool)) l.initial.table l.table
 
 abbrev pub decreases-loop-base : goal.decreases-loop-base
-decreases-loop-base l = l.sets - l.base
+decreases-loop-base l = l.base-end - l.base
