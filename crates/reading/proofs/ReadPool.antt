@@ -3,12 +3,12 @@ use mathlib.Core.Bool.{not, ◌||◌}
 use mathlib.Core.List.{List, [], ◌∷◌, ◌++◌}
 use mathlib.Core.Logic.{◌↔◌}
 use mathlib.Core.Path.{◌≡◌, refl, ap, ◌∙◌}
-use Prim.Native.Nat.{ℕ, zero, suc, ◌-◌, ◌/◌, ◌%◌, ◌≤◌, ◌<◌}
+use Prim.Native.Nat.{ℕ, zero, suc, ◌/◌, ◌%◌, ◌≤◌, ◌<◌}
 use native.Mathlib.Decide.{dec_lt}
 use native.Mathlib.Omega.{arith}
 use borrow.Author.Tests.{lt-ltb, le-ltb}
 use lib.Dec.{T, leb, ltb, eqb→eq, leb→le, le→leb, lt→ltb, T_not}
-use lib.ListN.{length, get_or, take, replicate}
+use lib.ListN.{length, get_or, take}
 use Rattle.pool.specs.declared.value.Pool.{Pool}
 use Rattle.kep.specs.Lists.{keep}
 use Rattle.kep.specs.Sets.{has, counted}
@@ -16,12 +16,12 @@ use Rattle.kep.specs.Graph.{WellFormed}
 use Rattle.pool.specs.Refusals.{Outcome, accepted}
 use Rattle.pool.specs.Value.{graph_of, arc_allowed, arcs_fit, takers_fit, weeks_in, most_weeks_waited, weeks_fit, pool_fits}
 use Rattle.reading.specs.Records.{length_tests, none_of, records_tested, read_pool, GivesTo}
-use Rattle.reading.specs.computed.Pool.{record_gives, takers_of, weeks_at, for_places, pool_of}
+use Rattle.reading.specs.computed.Pool.{record_gives, takers_of, weeks_at, pool_of}
+use Rattle.reading.proofs.ForPlaces.{place_at, place_behind}
 use Rattle.reading.specs.Fields.{record_width, most_records, class_of, grade_of, least_of, taken_of, weeks_of, tells_house, tells_member, pool_records}
 use Rattle.kep.proofs.Tests.{is_false, and_left, and_right, and_iff₃, implies_iff}
 use Rattle.kep.proofs.Each.{each_first, each_rest, keep_no, keep_one, keep_length}
 use Rattle.kep.proofs.ListLaws.{all_below_lem}
-use Rattle.kep.proofs.Tables.{get_d_tabulate, get_d_after}
 use Rattle.kep.proofs.SetLaws.{not_in_empty}
 use Rattle.kep.proofs.Vertices.{in_where}
 use Rattle.pool.proofs.ValueLaws.{fits_iff, fits_formed, arc_iff}
@@ -64,18 +64,6 @@ unfolding record_gives
 gives_iff giver taker = and_iff₃ (tells_member taker) (has (taken_of taker) (class_of giver)) (leb (least_of taker) (grade_of giver))
 
 -- ---- the pool of records that pass
-
-get_d_zeros : (n i : ℕ) → get_or (replicate {A = ℕ} n 0) i 0 ≡ 0
-get_d_zeros zero i = refl
-get_d_zeros (suc n) zero = refl
-get_d_zeros (suc n) (suc i) = get_d_zeros n i
-
--- the number of place u, and 0 for a place that is not there
-place_at : (f : ℕ → ℕ) (places u : ℕ) → u < places → get_or (for_places f places) u 0 ≡ f u
-place_at f places u h = get_d_tabulate f places u (replicate (most_records - places) 0) h
-
-place_behind : (f : ℕ → ℕ) (places u : ℕ) → places ≤ u → get_or (for_places f places) u 0 ≡ 0
-place_behind f places u h = get_d_after f places u (replicate (most_records - places) 0) h ∙ get_d_zeros (most_records - places) (u - places)
 
 module _ {A : Type 0} {a : A} (rs : List (List ℕ)) (few : length rs ≤ most_records) (o : Outcome A) (passed : records_tested [] rs o ≡ accepted a) where
   -- an arc leads from a place to a member's, by the rule

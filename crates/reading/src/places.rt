@@ -1,7 +1,7 @@
 // The records of a pool: a place for each.
-ghost use Rattle.std.specs.Prelude.{◌≡◌, ◌≤◌, [], length, get_or};
+ghost use Rattle.std.specs.Prelude.{◌≡◌, ◌≤◌, [], ltb, length, get_or};
 ghost use Rattle.kep.specs.Lists.{keep};
-ghost use Rattle.kep.specs.Sets.{set_where};
+ghost use Rattle.kep.specs.Sets.{counted, set_where};
 ghost use Rattle.pool.specs.Refusals.{outcome, accepted};
 ghost use Rattle.reading.specs.Records.{records_tested};
 ghost use Rattle.reading.specs.Fields.{most_records, tells_house};
@@ -42,11 +42,17 @@ impl Places<'_> {
     pub(crate) fn takers(&self) -> [u16; PoolRecord::MOST]
         ensures { result ≡ for_places (takers_of self.now.records.now) (length self.now.records.now) }
     {
-        let mut takers = [0; PoolRecord::MOST];
-        for (u, giver) in self.records.iter().enumerate() {
-            takers[u] = self.takers_of(giver).0;
+        std::array::from_fn(|u| self.takers_at(u))
+    }
+
+    // The set of the places that place u gives to; nothing from one that is not there.
+    fn takers_at(&self, u: usize) -> u16
+        ensures { result ≡ counted (ltb u (length self.now.records.now)) (takers_of self.now.records.now u) }
+    {
+        match self.records.get(u) {
+            Some(giver) => self.takers_of(giver).0,
+            None => 0,
         }
-        takers
     }
 
     // The places that a giver gives to.
@@ -66,10 +72,6 @@ impl Places<'_> {
     pub(crate) fn waited(&self) -> [u16; PoolRecord::MOST]
         ensures { result ≡ for_places (weeks_at self.now.records.now) (length self.now.records.now) }
     {
-        let mut waited = [0; PoolRecord::MOST];
-        for (u, record) in self.records.iter().enumerate() {
-            waited[u] = weeks(record);
-        }
-        waited
+        std::array::from_fn(|u| self.records.get(u).map_or(0, weeks))
     }
 }
