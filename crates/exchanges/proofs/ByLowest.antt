@@ -5,7 +5,7 @@ use mathlib.Core.List.{List}
 use mathlib.Core.Logic.{◌⊎◌, inl, inr}
 use Rattle.std.specs.Prelude.{Option, Some, None}
 use mathlib.Core.Path.{◌≡◌, ap, ap₂, sym, refl, ◌∙◌, subst}
-use Prim.Native.Nat.{ℕ, suc, ◌+◌, ◌-◌, ◌*◌, ◌/◌, ◌%◌, ◌^◌, ◌≤◌, ◌<◌}
+use Prim.Native.Nat.{ℕ, suc, ◌+◌, ◌-◌, ◌*◌, ◌/◌, ◌^◌, ◌≤◌, ◌<◌}
 use native.Mathlib.Decide.{ℕ_discrete, dec_lt}
 use native.Mathlib.Nat.{eq-zero-or-pos, mod-eq_of_lt}
 use native.Mathlib.Omega.{arith}
@@ -14,14 +14,13 @@ use lib.Count.{ones, ones-le, ones_cat}
 use lib.Dec.{T}
 use lib.ListN.{length, length-set, get_or, set}
 use lib.Seq.{get_or-set_same, get_or-set_other}
-use lib.Pow.{pow_pos, pow-lt, pow_mono, split, shr_lt}
+use lib.Pow.{pow_pos, pow-lt, split, shr_lt}
 use borrow.Author.Tests.{le-leb, lt-leb}
 use Rattle.kep.specs.Graph.{Graph, WellFormed}
 use Rattle.kep.specs.Sets.{has, counted}
 use Rattle.kep.specs.inner.Lowest.{lowest}
 use Rattle.kep.proofs.SetLaws.{IsLowest, lowest_is, has_below}
 use Rattle.kep.proofs.Vertices.{bit_le, in_without}
-use Rattle.kep.proofs.Operations.{one_shl}
 use Rattle.kep.proofs.LowestBit.{remainder_lowest, lowest_remainder, remainder_more, remainder_apart, ones_without, ones_add, ones_some, Jump, jump, lowest_bit}
 use Rattle.kep.specs.computed.Table.{entry}
 use Rattle.kep.specs.inner.Filling.{ends}
@@ -40,18 +39,9 @@ use Rattle.exchanges.proofs.Keeping.{lowest_of, ones_alone, chain_entry}
 pub begins_alone : (l : ℕ) → Begins l (2 ^ l)
 begins_alone l = record { remainder = mod-eq_of_lt (omega (arith, pow_pos l)) }
 
--- the numbers that code steps by
-pub record Numbers (l n : ℕ) : Type 0 where
-  pub first : 1 * 2 ^ l % 2 ^ 64 ≡ 2 ^ l
-  pub stride : 2 * (1 * 2 ^ l % 2 ^ 64) ≡ 2 ^ suc l
-  pub some : 0 < 2 ^ l
-  pub inside : 2 ^ suc l ≤ 2 ^ n
-  pub few : 2 ^ n ≤ 2 ^ 14
-
-pub numbers_are : {l n : ℕ} → l < n → n ≤ 14 → Numbers l n
-numbers_are {l} {n} h few =
-    let first : 1 * 2 ^ l % 2 ^ 64 ≡ 2 ^ l = one_shl 64 l (omega arith) in
-    record { first = first; some = pow_pos l; stride = omega arith; inside = pow_mono h; few = pow_mono few }
+-- the next comes after twice the first
+pub stride : (l : ℕ) {first : ℕ} → first ≡ 2 ^ l → 2 * first ≡ 2 ^ suc l
+stride l e = omega arith
 
 module _ {l s : ℕ} (b : Begins l s) where
   pub begins_next : Begins l (s + 2 ^ suc l)
@@ -126,7 +116,7 @@ first_set {l} (inr (two, e)) = rw e (
 -- as code finds it
 module _ {l cap s first : ℕ} (f : first ≡ 2 ^ l) (ok : Allowed l cap s) where
   pub steps : ones s < cap → Next l cap s (s + 2 * first)
-  steps less = let double : 2 * first ≡ 2 ^ suc l = omega arith in rw double (next_step ok.begins ok.fits less)
+  steps less = rw (stride l f) (next_step ok.begins ok.fits less)
 
   pub jumps : cap ≤ ones s → Next l cap s (s + (s - first - bit_and (s - first - 1) (s - first)))
   jumps full = rw (f, lowest_bit (s - 2 ^ l) (omega (arith, ok.more))) (next_jump ok.begins ok.fits ok.more full)

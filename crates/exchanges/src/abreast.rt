@@ -11,14 +11,20 @@ ghost use Rattle.exchanges.specs.inner.Abreast.{Lanes, opened};
 use crate::filling::Filling;
 use crate::path_ends::bit_where;
 
-impl Filling {
+// What a filling goes by, of a pool that has all three: its sets stand in eights.
+#[derive(Clone, Copy)]
+pub(crate) struct Eights<'a> {
+    pub filling: &'a Filling,
+    ghost three_vertices: { 3 ≤ filling.now.pool.size },
+}
+
+impl Eights<'_> {
     // The ends of the paths on every set.
     pub(crate) fn fill_path_ends(&self, table: &mut [u16])
-        requires three_vertices { 3 ≤ self.now.pool.size }
-        requires room { 2 ^ self.now.pool.size ≤ length table.old }
-        ensures { Changed (λ i. i ≡ i) (2 ^ self.now.pool.size) (ends_of (graph_of self.now.pool)) table.old table.new }
+        requires room { 2 ^ self.now.filling.now.pool.size ≤ length table.old }
+        ensures { Changed (λ i. i ≡ i) (2 ^ self.now.filling.now.pool.size) (ends_of (graph_of self.now.filling.now.pool)) table.old table.new }
     {
-        for base in (0..self.sets()).step_by(8) {
+        for base in (0..self.filling.sets()).step_by(8) {
             let eight = self.common_ends(base, table);
             let found = self.all_ends(base, eight);
             store_eight(base, found, table);
@@ -28,10 +34,10 @@ impl Filling {
     // The ends on the eight sets from `base` on, but for the vertices 1 and 2 where a lower one stands beside them.
     fn common_ends(&self, base: usize, table: &[u16]) -> [u16; 8]
         requires room { base + 8 ≤ length table.now }
-        requires sets_in_pool { base + 8 ≤ 2 ^ self.now.pool.size }
+        requires sets_in_pool { base + 8 ≤ 2 ^ self.now.filling.now.pool.size }
         requires base_of_eight { base % 8 ≡ 0 }
-        requires smaller_known { (j : ℕ) → j < 8 → Known (graph_of self.now.pool) (base + j) base table.now }
-        ensures { Lanes (graph_of self.now.pool) base result }
+        requires smaller_known { (j : ℕ) → j < 8 → Known (graph_of self.now.filling.now.pool) (base + j) base table.now }
+        ensures { Lanes (graph_of self.now.filling.now.pool) base result }
     {
         if base == 0 {
             // A vertex alone is a path.
@@ -44,7 +50,7 @@ impl Filling {
             let bit = left - next;
             let from = base - bit;
             let v = left.trailing_zeros() as usize;
-            add_open(from, self.givers[v], bit as u16, table, &mut eight);
+            add_open(from, self.filling.givers[v], bit as u16, table, &mut eight);
             left = next;
         }
         // The first set begins at a vertex that all have: no end of it, unless it is alone.
@@ -60,12 +66,11 @@ impl Filling {
     // All ends on the eight sets: the vertices 1 and 2 are tried by the ends on the sets without them.
     fn all_ends(&self, base: usize, eight: [u16; 8]) -> [u16; 8]
         requires base_of_eight { base % 8 ≡ 0 }
-        requires three_vertices { 3 ≤ self.now.pool.size }
-        requires lanes { Lanes (graph_of self.now.pool) base eight }
-        ensures { result ≡ tabulate (λ j. ends_of (graph_of self.now.pool) (base + j)) 8 }
+        requires lanes { Lanes (graph_of self.now.filling.now.pool) base eight }
+        ensures { result ≡ tabulate (λ j. ends_of (graph_of self.now.filling.now.pool) (base + j)) 8 }
     {
-        let one = self.givers[1];
-        let two = self.givers[2];
+        let one = self.filling.givers[1];
+        let two = self.filling.givers[2];
         let e0 = eight[0];
         let e1 = eight[1];
         let e2 = eight[2];

@@ -9,6 +9,7 @@ ghost use Rattle.kep.specs.Lists.{written_to};
 ghost use Rattle.exchanges.specs.inner.Changed.{Changed};
 ghost use Rattle.exchanges.specs.inner.ByLowest.{Begins, Closes, Allowed, Next, Held, entry_of, ends_within, closing_at, kept_of, limit_at};
 
+use crate::abreast::Eights;
 use crate::filling::Filling;
 
 impl Filling {
@@ -17,36 +18,22 @@ impl Filling {
         requires room { 2 ^ self.now.pool.size ≤ length table.old }
         ensures { table.new ≡ written_to (entry_of self.now.pool self.now.limits) (2 ^ self.now.pool.size) table.old }
     {
-        if self.allows_most_sets() {
-            self.fill_from_all_paths(table);
+        if self.pool.size > 2 && self.allows_most_sets() {
+            Eights { filling: self }.fill_from_all_paths(table);
         } else {
             self.fill_allowed_sets(table);
         }
     }
 
-    // Are all chains or most cycles that begin at vertex 0 allowed, which use half of all sets?
-    fn allows_most_sets(&self) -> bool
-        ensures { result ≡ true → 3 ≤ self.now.pool.size }
-    {
+    // Are all chains or most cycles that begin at vertex 0 allowed, which use half of all sets? The table is the same either way.
+    fn allows_most_sets(&self) -> bool {
         let most = self.limit_of(0);
         let enough = if self.pool.is_altruist(0) {
             most
         } else {
             2 * most
         };
-        self.pool.size > 2 && usize::from(self.pool.size) <= enough
-    }
-
-    // Where most sets are allowed: pass one for all sets, eight abreast, and then pass two for each vertex.
-    fn fill_from_all_paths(&self, table: &mut [u16])
-        requires three_vertices { 3 ≤ self.now.pool.size }
-        requires room { 2 ^ self.now.pool.size ≤ length table.old }
-        ensures { table.new ≡ written_to (entry_of self.now.pool self.now.limits) (2 ^ self.now.pool.size) table.old }
-    {
-        self.fill_path_ends(table);
-        for low in 0..self.pool.size {
-            self.keep_exchanges(low, table);
-        }
+        usize::from(self.pool.size) <= enough
     }
 
     // Where few are allowed only those are looked at: both passes for each vertex, from a table with no entry.
@@ -56,7 +43,7 @@ impl Filling {
     {
         clear_table(self.sets(), table);
         for low in 0..self.pool.size {
-            self.fill_exchanges_from(low, table);
+            SetsFrom { filling: self, low }.fill_exchanges(table);
         }
     }
 
@@ -67,82 +54,108 @@ impl Filling {
     {
         self.limits.most_vertices(self.pool.is_altruist(low))
     }
+}
 
-    // Where an exchange that begins at the vertex may end: a cycle at a giver of it, a chain anywhere but at its altruist.
-    fn closing_of(&self, low: u8) -> u16
-        requires { low < self.now.pool.size }
-        ensures { Closes (graph_of self.now.pool) self.now.limits.cycle self.now.limits.chain low result }
+impl Eights<'_> {
+    // Where most sets are allowed: pass one for all sets, eight abreast, and then pass two for each vertex.
+    fn fill_from_all_paths(&self, table: &mut [u16])
+        requires room { 2 ^ self.now.filling.now.pool.size ≤ length table.old }
+        ensures { let f = self.now.filling.now in table.new ≡ written_to (entry_of f.pool f.limits) (2 ^ f.pool.size) table.old }
     {
-        if self.pool.is_altruist(low) {
-            65535 - (1u16 << low)
+        self.fill_path_ends(table);
+        let filling = self.filling;
+        for low in 0..filling.pool.size {
+            SetsFrom { filling, low }.keep_exchanges(table);
+        }
+    }
+}
+
+// The sets that begin at one vertex of a pool.
+#[derive(Clone, Copy)]
+struct SetsFrom<'a> {
+    filling: &'a Filling,
+    low: u8,
+    ghost in_pool: { low < filling.now.pool.size },
+}
+
+impl SetsFrom<'_> {
+    // Where an exchange on them may end: a cycle at a giver of the vertex, a chain anywhere but at its altruist.
+    fn closing(&self) -> u16
+        ensures { let f = self.now.filling.now in Closes (graph_of f.pool) f.limits.cycle f.limits.chain self.now.low result }
+    {
+        if self.filling.pool.is_altruist(self.low) {
+            65535 - (1u16 << self.low)
         } else {
-            self.givers[low as usize]
+            self.filling.givers[self.low as usize]
         }
     }
 
-    // The entries of the sets that begin at `low`, where the table has the ends of their paths.
-    fn keep_exchanges(&self, low: u8, table: &mut [u16])
-        requires room { 2 ^ self.now.pool.size ≤ length table.old }
-        requires in_pool { low < self.now.pool.size }
-        requires held { Held true (graph_of self.now.pool) low (2 ^ self.now.pool.size) table.old }
-        ensures { Changed (Begins low) (2 ^ self.now.pool.size) (entry_of self.now.pool self.now.limits) table.old table.new }
+    // The first of them: the vertex alone. The others follow by multiples of its double.
+    fn first(&self) -> usize
+        ensures { result ≡ 2 ^ self.now.low }
     {
-        let most = self.limit_of(low);
+        1usize << self.low
+    }
+
+    // Their entries, where the table has the ends of their paths.
+    fn keep_exchanges(&self, table: &mut [u16])
+        requires room { 2 ^ self.now.filling.now.pool.size ≤ length table.old }
+        requires held { let f = self.now.filling.now in Held true (graph_of f.pool) self.now.low (2 ^ f.pool.size) table.old }
+        ensures { let f = self.now.filling.now in Changed (Begins self.now.low) (2 ^ f.pool.size) (entry_of f.pool f.limits) table.old table.new }
+    {
+        let most = self.filling.limit_of(self.low);
         // Where the limit allows as many as there are, the vertices need not be counted.
-        let counted = if usize::from(self.pool.size) <= most + usize::from(low) {
+        let counted = if usize::from(self.filling.pool.size) <= most + usize::from(self.low) {
             None
         } else {
             Some(most)
         };
-        self.keep_ends(low, counted, self.closing_of(low), table);
+        self.keep_ends(counted, self.closing(), table);
     }
 
-    // The same entries where the table has nothing for them yet.
-    fn fill_exchanges_from(&self, low: u8, table: &mut [u16])
-        requires room { 2 ^ self.now.pool.size ≤ length table.old }
-        requires in_pool { low < self.now.pool.size }
-        requires held { Held false (graph_of self.now.pool) low (2 ^ self.now.pool.size) table.old }
-        ensures { Changed (Begins low) (2 ^ self.now.pool.size) (entry_of self.now.pool self.now.limits) table.old table.new }
+    // Their entries, where the table has nothing for them yet.
+    fn fill_exchanges(&self, table: &mut [u16])
+        requires room { 2 ^ self.now.filling.now.pool.size ≤ length table.old }
+        requires held { let f = self.now.filling.now in Held false (graph_of f.pool) self.now.low (2 ^ f.pool.size) table.old }
+        ensures { let f = self.now.filling.now in Changed (Begins self.now.low) (2 ^ f.pool.size) (entry_of f.pool f.limits) table.old table.new }
     {
-        self.fill_allowed(low, self.limit_of(low), table);
-        if self.pool.is_altruist(low) {
+        self.fill_allowed(self.filling.limit_of(self.low), table);
+        if self.filling.pool.is_altruist(self.low) {
             // Every path is a chain but that of the altruist alone.
-            table[1usize << low] = 0;
+            table[self.first()] = 0;
         } else {
-            self.keep_ends(low, None, self.closing_of(low), table);
+            self.keep_ends(None, self.closing(), table);
         }
     }
 
-    // Pass one for the sets that begin at `low` and have at most `most` vertices.
-    fn fill_allowed(&self, low: u8, most: usize, table: &mut [u16])
-        requires room { 2 ^ self.now.pool.size ≤ length table.old }
-        requires in_pool { low < self.now.pool.size }
-        requires held { Held false (graph_of self.now.pool) low (2 ^ self.now.pool.size) table.old }
-        ensures { Changed (Begins low) (2 ^ self.now.pool.size) (ends_within (graph_of self.now.pool) most) table.old table.new }
+    // Pass one for those of at most `most` vertices.
+    fn fill_allowed(&self, most: usize, table: &mut [u16])
+        requires room { 2 ^ self.now.filling.now.pool.size ≤ length table.old }
+        requires held { let f = self.now.filling.now in Held false (graph_of f.pool) self.now.low (2 ^ f.pool.size) table.old }
+        ensures { let f = self.now.filling.now in Changed (Begins self.now.low) (2 ^ f.pool.size) (ends_within (graph_of f.pool) most) table.old table.new }
     {
-        let first = 1usize << low;
-        let sets = self.sets();
+        let first = self.first();
+        let end = self.filling.sets();
         if most == 0 {
             return;
         }
         // A vertex alone is a path.
         table[first] = first as u16;
-        let mut set = if most == 1 { sets } else { 3 * first };
-        while set < sets {
-            table[set] = self.path_ends(set, first, table);
+        let mut set = if most == 1 { end } else { 3 * first };
+        while set < end {
+            table[set] = self.filling.path_ends(set, first, table);
             set = next_allowed(set, first, most);
         }
     }
 
-    // Pass two for the sets that begin at `low`: of the ends those in the closing set, where a set has at most so many vertices. With no
-    // limit the vertices are not counted.
-    fn keep_ends(&self, low: u8, most: Option<usize>, closing: u16, table: &mut [u16])
-        requires room { 2 ^ self.now.pool.size ≤ length table.old }
-        requires in_pool { low < self.now.pool.size }
-        ensures { Changed (Begins low) (2 ^ self.now.pool.size) (kept_of most closing table.old) table.old table.new }
+    // Pass two: of the ends those in the closing set, where a set has at most so many vertices. With no limit the vertices are not
+    // counted.
+    fn keep_ends(&self, most: Option<usize>, closing: u16, table: &mut [u16])
+        requires room { 2 ^ self.now.filling.now.pool.size ≤ length table.old }
+        ensures { Changed (Begins self.now.low) (2 ^ self.now.filling.now.pool.size) (kept_of most closing table.old) table.old table.new }
     {
-        let first = 1usize << low;
-        for set in (first..self.sets()).step_by(2 * first) {
+        let first = self.first();
+        for set in (first..self.filling.sets()).step_by(2 * first) {
             table[set] &= closing_within(set, most, closing);
         }
     }

@@ -8,15 +8,15 @@ use Rattle.kep.specs.inner.Filling.{ends}
 use native.Mathlib.Omega.{arith}
 use Rattle.exchanges.proofs.Given.{known_givers}
 use Rattle.exchanges.proofs.EightLanes.{ends_3, ends_5, ends_6, ends_7, eight_listed}
-use Rattle.exchanges.proofs.filling.Filling.all_ends.Goals as goal
+use Rattle.exchanges.proofs.abreast.Eights.all_ends.Goals as goal
 
 pub returns : goal.returns
 returns c =
-    let f = c.args.self.now in
+    let f = c.args.self.now.filling.now in
     let g = graph_of f.pool in
     let base = c.args.base in
     let m = c.requires.base_of_eight in
-    let three = c.requires.three_vertices in
+    let three = c.args.self.now.three_vertices in
     let lanes = c.requires.lanes in
     let one = known_givers f 1 (omega arith) in
     let two = known_givers f 2 (omega arith) in

@@ -15,11 +15,11 @@ use Rattle.exchanges.specs.inner.Abreast.{common}
 use Rattle.exchanges.proofs.Given.{fits, few, known_length}
 use Rattle.exchanges.proofs.Looking.{vertex, look, looked}
 use Rattle.exchanges.proofs.EightLanes.{lanes_none, lanes_found, first_alone, first_several}
-use Rattle.exchanges.proofs.filling.Filling.common_ends.Goals.{else-rest-eq0, then-rest-eq0}
-use Rattle.exchanges.proofs.filling.Filling.common_ends.Goals as goal
+use Rattle.exchanges.proofs.abreast.Eights.common_ends.Goals.{else-rest-eq0, then-rest-eq0}
+use Rattle.exchanges.proofs.abreast.Eights.common_ends.Goals as goal
 
 pub returns-then-base-eq0 : goal.returns-then-base-eq0
-returns-then-base-eq0 c = let a = c.args in lanes_none (graph_of a.self.now.pool) a.base c.if-base-eq0.true
+returns-then-base-eq0 c = let a = c.args in lanes_none (graph_of a.self.now.filling.now.pool) a.base c.if-base-eq0.true
 
 pub loop-left-init : goal.loop-left-init
 unfolding tabulate
@@ -31,7 +31,7 @@ overflow_sub-from c = omega (arith, part_le (c.loop-left.invariant.1 0 (omega ar
 pub bounds-self-v : goal.bounds-self-v
 bounds-self-v c =
     let a = c.args in
-    let f = a.self.now in
+    let f = a.self.now.filling.now in
     -- the vertex looked at is one of the pool's
     let is_vertex : count_trailing_zeros 64 c.loop-left.left < f.pool.size =
     vertex f.givers a.table.now (a.base + 0) (omega (arith, entries_few f.pool (fits f))) (pos_of_ne-zero c.loop-left-test.true) (c.loop-left.invariant.1 0 (omega arith)) f.pool.size (omega arith) in
@@ -39,13 +39,13 @@ bounds-self-v c =
 
 pub overflow_cast-bit : goal.overflow_cast-bit
 overflow_cast-bit c =
-    let f = c.args.self.now in
+    let f = c.args.self.now.filling.now in
     omega (arith, part_le (c.loop-left.invariant.1 0 (omega arith)).inside, entries_few f.pool (fits f))
 
 pub loop-left-preserved : goal.loop-left-preserved
 loop-left-preserved c =
     let a = c.args in
-    let f = a.self.now in
+    let f = a.self.now.filling.now in
     let left = c.loop-left.left in
     let left_le : left ≤ a.base = part_le (c.loop-left.invariant.1 0 (omega arith)).inside in
     let opened = c.add_open.ensures in (
@@ -58,7 +58,7 @@ loop-left-preserved c =
 pub returns : goal.returns
 returns c =
     let a = c.args in
-    let f = a.self.now in
+    let f = a.self.now.filling.now in
     let g = graph_of f.pool in
     let found : (j : ℕ) → j < 8 → get_or c.loop-left.eight j 0 ≡ common g a.base j =
     λ j l. looked f (c.requires.smaller_known j l) (omega (arith, entries_few f.pool (fits f))) (omega arith) c.loop-left.left c.loop-left-test.false (c.loop-left.invariant.1 j l) in
