@@ -13,7 +13,7 @@ use reading::read_pool;
 use tables::{MEMBER, fill_best};
 
 // The plan in short: the members served, and the number of records written.
-#[derive(Clone, Copy)]
+#[derive(Clone, Copy, Debug, PartialEq, Eq)]
 pub struct Cleared {
     pub served: u8,
     pub records: usize,

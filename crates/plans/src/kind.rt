@@ -6,7 +6,7 @@ ghost use Rattle.plans.specs.Kind.{byte_of};
 use pool::Cause;
 
 // A chain, and a cycle (01: ring).
-#[derive(Clone, Copy, PartialEq, Eq)]
+#[derive(Clone, Copy, Debug, PartialEq, Eq)]
 pub enum ExchangeKind {
     Chain = 67,
     Ring = 82,

@@ -5,7 +5,7 @@ ghost use Rattle.pool.specs.Limits.{limits_fit, test_limits, limits_of, most_ver
 
 use crate::refusal::{Cause, Refusal};
 
-#[derive(Clone, Copy)]
+#[derive(Clone, Copy, Debug, PartialEq, Eq)]
 pub struct Limits {
     pub cycle: u8,
     pub chain: u8,

@@ -8,7 +8,7 @@ ghost use Rattle.pool.specs.Value.{graph_of, test_pool, pool_fits, takers_fit, a
 use crate::refusal::{Cause, Refusal};
 use sets::VertexSet;
 
-#[derive(Clone, Copy)]
+#[derive(Clone, Copy, Debug, PartialEq, Eq)]
 pub struct Pool {
     // The places: vertices 0 to size - 1.
     pub size: u8,
