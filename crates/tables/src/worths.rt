@@ -64,8 +64,7 @@ fn vertex_worth(pool: Pool, v: usize) -> u32
     requires { v < 14 }
     ensures { result ≡ worth_in pool v }
 {
-    let member = pool.altruists as usize <= v && v < pool.size as usize;
-    if member {
+    if pool.members().has(v as u8) {
         member_worth(pool.weeks[v])
     } else {
         0
