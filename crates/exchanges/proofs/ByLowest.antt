@@ -104,14 +104,17 @@ module _ {l cap s : ℕ} (b : Begins l s) (fits : ones s ≤ cap) where
       rest : s + 2 ^ v - 2 ^ l ≡ s - 2 ^ l + 2 ^ v
       rest = omega (arith, begins_le b)
 
--- the first, if the limit allows any
-pub first_set : {l cap n set : ℕ} → ((cap ≡ 1) × (set ≡ n)) ⊎ ((2 ≤ cap) × (set ≡ 2 ^ l + 2 ^ suc l))
-    → (set < n → Allowed l cap set) × ((i : ℕ) → 2 ^ l < i → i < set → Begins l i → cap < ones i)
-first_set {l} (inl (few, e)) = (λ h. absurd (omega arith), λ i m k b. omega (arith, ones_begun b, ones_some (i - 2 ^ l) (omega arith)))
-first_set {l} (inr (two, e)) = rw e (
-  (λ h. record { begins = begins_next (begins_alone l); more = omega (arith, pow_pos l); fits = omega (arith, ones_add (2 ^ l) (suc l), ones_alone l) }),
-  (λ i m k b. absurd (omega (arith, remainder_apart l (begins_alone l).remainder b.remainder m))),
-)
+-- a limit of one vertex allows no more than the first alone
+pub none_more : {l cap i : ℕ} → cap ≡ 1 → 2 ^ l < i → Begins l i → cap < ones i
+none_more {l} {i = i} one m b = omega (arith, ones_begun b, ones_some (i - 2 ^ l) (omega arith))
+
+-- the second, which a larger limit allows; between the two none begins there
+module _ {l cap set : ℕ} (e : set ≡ 2 ^ l + 2 ^ suc l) where
+  pub second_set : 2 ≤ cap → Allowed l cap set
+  second_set two = rw e (record { begins = begins_next (begins_alone l); more = omega (arith, pow_pos l); fits = omega (arith, ones_add (2 ^ l) (suc l), ones_alone l) })
+
+  pub none_between : (i : ℕ) → 2 ^ l < i → i < set → Begins l i → cap < ones i
+  none_between i m k b = absurd (omega (arith, remainder_apart l (begins_alone l).remainder b.remainder m))
 
 -- as code finds it
 module _ {l cap s first : ℕ} (f : first ≡ 2 ^ l) (ok : Allowed l cap s) where

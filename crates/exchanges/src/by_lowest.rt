@@ -135,13 +135,16 @@ impl SetsFrom<'_> {
         ensures { let f = self.now.filling.now in Changed (Begins self.now.low) (2 ^ f.pool.size) (ends_within (graph_of f.pool) most) table.old table.new }
     {
         let first = self.first();
-        let end = self.filling.sets();
         if most == 0 {
             return;
         }
         // A vertex alone is a path.
         table[first] = first as u16;
-        let mut set = if most == 1 { end } else { 3 * first };
+        if most == 1 {
+            return;
+        }
+        let end = self.filling.sets();
+        let mut set = 3 * first;
         while set < end {
             table[set] = self.filling.path_ends(set, first, table);
             set = next_allowed(set, first, most);

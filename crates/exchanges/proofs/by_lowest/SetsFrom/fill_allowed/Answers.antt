@@ -1,8 +1,7 @@
 use mathlib.Core.Bool.{false}
 use mathlib.Core.List.{List}
-use mathlib.Core.Logic.{inl, inr}
 use mathlib.Core.Path.{◌≡◌, ap, sym, ◌∙◌}
-use Prim.Native.Nat.{ℕ, ◌≤◌, ◌<◌, ◌^◌}
+use Prim.Native.Nat.{ℕ, suc, ◌+◌, ◌*◌, ◌≤◌, ◌<◌, ◌^◌}
 use native.Mathlib.Nat.{pos_of_ne-zero}
 use native.Mathlib.Omega.{arith}
 use Rattle.exchanges.specs.declared.filling.Filling.{Filling}
@@ -16,8 +15,7 @@ use Rattle.exchanges.specs.inner.ByLowest.{Begins, Allowed, Held, ends_within}
 use Rattle.exchanges.specs.inner.Changed.{Changed}
 use Rattle.exchanges.proofs.Changed.{changed_end}
 use Rattle.exchanges.proofs.Keeping.{lowest_of}
-use Rattle.exchanges.proofs.ByLowest.{begun_none, first_set, next_allowed, Alone, alone_put, put_changed, begun_start, begun_known, begun_more}
-use Rattle.exchanges.proofs.by_lowest.SetsFrom.fill_allowed.Goals.{else-most-eq1, then-most-eq1}
+use Rattle.exchanges.proofs.ByLowest.{begun_none, none_more, second_set, none_between, next_allowed, Alone, alone_put, put_changed, begun_start, begun_known, begun_more}
 use Rattle.exchanges.proofs.by_lowest.SetsFrom.fill_allowed.Goals as goal
 
 -- the vertex alone
@@ -50,17 +48,26 @@ returns-then-most-eq0 c =
     let f = c.args.self.now.filling.now in
     rw c.if-most-eq0.true (begun_none (graph_of f.pool) c.args.self.now.low (2 ^ f.pool.size) c.requires.held)
 
+pub returns-then-most-eq1 : goal.returns-then-most-eq1
+returns-then-most-eq1 c =
+    let a = c.args in
+    let f = a.self.now.filling.now in
+    let l = a.self.now.low in
+    let b = begun f c.args.self.now.in_pool c.requires.room c.requires.held c.if-most-eq0.false in
+    rw c.first-first.ensures (put_changed (graph_of f.pool) l f.pool.size a.most a.table.now c.args.self.now.in_pool
+    (changed_end (2 ^ f.pool.size) (begun_start (graph_of f.pool) l f.pool.size a.most b.room b.alone (2 ^ f.pool.size) (λ i m k s. none_more c.if-most-eq1.true m s)) (omega arith)))
+
 pub loop-set-init : goal.loop-set-init
 loop-set-init c =
     let a = c.args in
     let f = a.self.now.filling.now in
     let b = begun f c.args.self.now.in_pool c.requires.room c.requires.held c.if-most-eq0.false in
-    let (allowed, many) = first_set {l = a.self.now.low} {cap = a.most} {n = 2 ^ f.pool.size} {set = c.if-most-eq1.set}
-    (elim c.if-most-eq1.branch [
-      | then-most-eq1 w ↦ inl (w.if-most-eq1.true, w.set-is ∙ c.sets-end.ensures)
-      | else-most-eq1 w ↦ inr (omega (arith, w.if-most-eq1.false, c.if-most-eq0.false), w.set-is ∙ omega (arith, c.first-first.ensures))
-    ]) in
-    (allowed, rw c.first-first.ensures (begun_start (graph_of f.pool) a.self.now.low f.pool.size a.most b.room b.alone c.if-most-eq1.set many))
+    let l = a.self.now.low in
+    let e : 3 * 2 ^ l ≡ 2 ^ l + 2 ^ suc l = omega arith in
+    rw c.first-first.ensures (
+      (λ _. second_set e (omega (arith, c.if-most-eq0.false, c.if-most-eq1.false))),
+      begun_start (graph_of f.pool) l f.pool.size a.most b.room b.alone (3 * 2 ^ l) (none_between e),
+    )
 
 pub path_ends-requires : goal.path_ends-requires
 path_ends-requires c =
