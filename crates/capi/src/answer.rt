@@ -5,7 +5,7 @@ ghost use Rattle.capi.specs.Answers.{accepted_with, refused_with};
 
 use pool::Refusal;
 
-// number is 0 where the input was accepted, and first and second are what the call gives back; else number is the refusal's, and at its spot.
+// C has no Result: number is 0 where the input was accepted, and first and second are what the call gives back; else number is the refusal's, and at its spot.
 #[repr(C)]
 #[derive(Clone, Copy)]
 pub struct Answer {

@@ -1,4 +1,4 @@
-// Filling the two tables, for C.
+// Filling the two tables, for C, which has no generic calls: one call for each.
 ghost use Rattle.std.specs.Prelude.{◌≡◌};
 ghost use Rattle.pool.specs.Limits.{limits_of};
 ghost use Rattle.pool.specs.Refusals.{outcome};

@@ -4,7 +4,8 @@ ghost use Rattle.std.specs.Io.{ReadsAtMost};
 use std::io;
 use std::io::Read;
 
-// Reads until the buffer is full or the input ends, and tells how many bytes it put at the front.
+// Reads until the buffer is full or the input ends, and tells how many bytes it put at the front. std's `read_exact` fails where the
+// input ends early, and there this program goes on with zeros.
 pub(crate) fn read_full(input: &mut impl Read, buffer: &mut [u8]) -> io::Result<usize>
     ensures { ReadsAtMost result buffer.new }
 {

@@ -16,7 +16,7 @@ impl PlanRecord {
     pub const FILLER: u8 = 255;
 }
 
-// The sixteen bytes of record k, where k + 1 whole records stand there; else an empty part at the start of the plan.
+// The sixteen bytes of record k, where k + 1 whole records stand there; else, as 01 asks, an empty part and no `None`: at the start of the plan.
 pub fn record(plan: &[u8], k: usize) -> &[u8]
     ensures contents { result.now ≡ record_part plan.now k }
     ensures place { result.ref_ptr ≡ record_place plan.entry.ref_ptr plan.now k }

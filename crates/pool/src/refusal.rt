@@ -27,7 +27,7 @@ pub enum Cause {
 }
 
 impl Cause {
-    // The number that the documents give the cause.
+    // The number that the documents give the cause, by a match, as 01 asks.
     pub fn number(self) -> u8
         ensures { result ≡ number_of self }
     {

@@ -24,7 +24,7 @@ impl VertexSet {
         self.0 & bit(v) != 0
     }
 
-    // The lowest vertex, 16 for the empty set.
+    // The lowest vertex; as 01 asks, 16 and no `None` for the empty set.
     pub fn lowest(self) -> u8
         ensures { result ≡ lowest_below 16 self.0 }
     {
