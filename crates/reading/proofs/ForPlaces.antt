@@ -1,10 +1,12 @@
 -- A number for each place, as code finds it.
-use mathlib.Core.Path.{◌≡◌, refl, sym, ◌∙◌}
+use mathlib.Core.List.{List, ◌++◌}
+use mathlib.Core.Path.{◌≡◌, refl, sym, ap, ◌∙◌}
 use Prim.Native.Nat.{ℕ, zero, suc, ◌-◌, ◌≤◌, ◌<◌}
+use native.Mathlib.Nat.{sub-zero, suc-sub-suc}
 use native.Mathlib.Decide.{dec_lt}
 use native.Mathlib.Omega.{arith}
 use lib.Dec.{ltb}
-use lib.ListN.{length, length-append, length-replicate, get_or, replicate}
+use lib.ListN.{length, length-append, length-replicate, get_or, drop, replicate}
 use lib.Seq.{ext_get_or}
 use borrow.Author.Tests.{lt-ltb, le-ltb}
 use Rattle.kep.specs.Lists.{tabulate}
@@ -38,3 +40,14 @@ places_told f places few = ext_get_or 0 _ (for_places f places) (length_tabulate
     go : (u : ℕ) → Dec (u < places) → told u ≡ get_or (for_places f places) u 0
     go u (yes l) = rw (lt-ltb u places l) (sym (place_at f places u l))
     go u (no n) = rw (le-ltb u places (omega arith)) (sym (place_behind f places u (omega arith)))
+
+-- the same as a loop fills it over zeros: from place u on those are left
+replicate_behind : (k n : ℕ) → k ≤ n → drop k (replicate {A = ℕ} n 0) ≡ replicate (n - k) 0
+replicate_behind zero n h = rw sub-zero
+replicate_behind (suc k) zero h = absurd (omega arith)
+replicate_behind (suc k) (suc n) h = replicate_behind k n (omega arith) ∙ ap (λ j. replicate {A = ℕ} j 0) (sym (suc-sub-suc n k))
+
+pub places_filled : (f : ℕ → ℕ) {places u : ℕ} {filled : List ℕ} → places ≤ most_records → u ≡ places → filled ≡ tabulate f u ++ drop u (replicate most_records 0)
+    → filled ≡ for_places f places
+places_filled f {places} few done e =
+    e ∙ ap (λ k. tabulate f k ++ drop k (replicate most_records 0)) done ∙ ap (λ r. tabulate f places ++ r) (replicate_behind places most_records few)
