@@ -1,13 +1,8 @@
 use native.Mathlib.Omega.{arith}
 use Rattle.kep.proofs.Parts.{part_le}
-use Rattle.kep.proofs.Down.{step_below}
 use Rattle.kep.specs.inner.BestFilling.{next_best}
-use Rattle.kep.proofs.BestFilling.{trying_start, trying_next, trying_done}
-use Rattle.tables.proofs.BestCode.{sum_fits}
+use Rattle.kep.proofs.BestFilling.{trying_next, trying_done}
 use Rattle.tables.proofs.best.best_entry.Goals as goal
-
-pub loop-t-init : goal.loop-t-init
-loop-t-init c = trying_start
 
 pub overflow_sub-rest : goal.overflow_sub-rest
 overflow_sub-rest c = part_le c.loop-t.invariant.inside
@@ -17,12 +12,6 @@ offset_bounds-offers-t c = omega (arith, part_le c.loop-t.invariant.inside)
 
 pub bounds-offers-t : goal.bounds-offers-t
 bounds-offers-t c = omega (arith, part_le c.loop-t.invariant.inside)
-
-pub overflow_add-sum : goal.overflow_add-sum
-overflow_add-sum c = sum_fits (c.type_inv.offers _) (c.type_inv.table _)
-
-pub loop-t-smaller : goal.loop-t-smaller
-loop-t-smaller c = step_below _ _ (omega arith)
 
 pub loop-t-preserved : goal.loop-t-preserved
 loop-t-preserved c = trying_next (omega arith) c.loop-t.invariant c.max-found.ensures

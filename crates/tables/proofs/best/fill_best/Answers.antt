@@ -33,11 +33,6 @@ returns-then-table-entries c =
 pub new-worths-requires : goal.new-worths-requires
 new-worths-requires c = is_true (pool_fits c.args.pool) (fitting_pool c.in_ok-test.ensures)
 
-pub fill_best-requires : goal.fill_best-requires
-fill_best-requires c =
-    let entries = entries_are c.args.pool (fitting_pool c.in_ok-test.ensures) in
-    rw c.new-worths.ensures.size record { exchanges_long = omega (arith, entries); table_long = omega (arith, entries) }
-
 pub returns : goal.returns
 returns c =
     let p = c.args.pool in

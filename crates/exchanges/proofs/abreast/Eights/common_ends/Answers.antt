@@ -5,12 +5,9 @@ use native.Mathlib.Omega.{arith}
 use lib.Bits.{bit_and}
 use lib.Count.{count_trailing_zeros}
 use lib.ListN.{get_or}
-use Rattle.kep.specs.Lists.{tabulate}
 use Rattle.pool.specs.Value.{graph_of}
-use Rattle.kep.proofs.Tables.{get_d_whole}
 use Rattle.kep.proofs.Parts.{part_le}
 use Rattle.pool.proofs.ValueLaws.{entries_few}
-use Rattle.kep.proofs.Sifting.{sifting_start}
 use Rattle.exchanges.specs.inner.Abreast.{common}
 use Rattle.exchanges.proofs.Given.{fits, few, known_length}
 use Rattle.exchanges.proofs.Looking.{vertex, look, looked}
@@ -20,10 +17,6 @@ use Rattle.exchanges.proofs.abreast.Eights.common_ends.Goals as goal
 
 pub returns-then-base-eq0 : goal.returns-then-base-eq0
 returns-then-base-eq0 c = let a = c.args in lanes_none (graph_of a.self.now.filling.now.pool) a.base c.if-base-eq0.true
-
-pub loop-left-init : goal.loop-left-init
-unfolding tabulate
-loop-left-init c = (refl, λ j l. rw (get_d_whole (λ _. 0) 8 j l) sifting_start)
 
 pub overflow_sub-from : goal.overflow_sub-from
 overflow_sub-from c = omega (arith, part_le (c.loop-left.invariant.1 0 (omega arith)).inside)

@@ -1,10 +1,7 @@
 use mathlib.Core.Bool.{true}
 use native.Mathlib.Omega.{arith}
-use Rattle.exchanges.proofs.ByLowest.{before_none, still_held, before_more, before_all}
+use Rattle.exchanges.proofs.ByLowest.{still_held, before_more, before_all}
 use Rattle.exchanges.proofs.abreast.Eights.fill_from_all_paths.Goals as goal
-
-pub loop-low-init : goal.loop-low-init
-loop-low-init c = before_none c.args.self.now.filling.now true c.fill_path_ends.ensures
 
 pub keep_exchanges-requires-clause-held : goal.keep_exchanges-requires-clause-held
 keep_exchanges-requires-clause-held c = still_held c.args.self.now.filling.now true c.fill_path_ends.ensures c.loop-low.invariant

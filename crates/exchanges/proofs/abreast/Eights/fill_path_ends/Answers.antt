@@ -33,12 +33,6 @@ loop-base-preserved c =
       eight_more (graph_of c.args.self.now.filling.now.pool) c.loop-base.base c.all_ends-found.ensures filled c.store_eight.ensures,
     )
 
-pub returns : goal.returns
-returns c =
-    let f = c.args.self.now.filling.now in
-    let done : c.loop-base.base ≡ 2 ^ f.pool.size = omega (arith, c.loop-base.invariant.1, c.loop-base-test.false) in
-    rw done at c.loop-base.invariant.2
-
 -- where the last eight are stored
 pub returns-2 : goal.returns-2
 returns-2 c =

@@ -69,20 +69,18 @@ loop-set-init c =
       begun_start (graph_of f.pool) l f.pool.size a.most b.room b.alone (3 * 2 ^ l) (none_between e),
     )
 
-pub path_ends-requires : goal.path_ends-requires
-path_ends-requires c =
+pub path_ends-requires-clause-first_is_lowest : goal.path_ends-requires-clause-first_is_lowest
+path_ends-requires-clause-first_is_lowest c =
+    let s = turn c.first-first.ensures (omega arith) c.loop-set.invariant in
+    c.first-first.ensures ∙ ap (λ (v : ℕ). 2 ^ v) (sym (lowest_of s.allowed.begins))
+
+pub path_ends-requires-clause-smaller_known : goal.path_ends-requires-clause-smaller_known
+path_ends-requires-clause-smaller_known c =
     let a = c.args in
     let f = a.self.now.filling.now in
     let b = begun f c.args.self.now.in_pool c.requires.room c.requires.held c.if-most-eq0.false in
     let s = turn c.first-first.ensures (omega arith) c.loop-set.invariant in
-    let first = c.first-first.ensures in
-    record {
-      set_in_pool = s.small;
-      set_in_table = omega (arith, s.filled.same_length, b.room, s.small);
-      first_is_lowest = first ∙ ap (λ (v : ℕ). 2 ^ v) (sym (lowest_of s.allowed.begins));
-      several = omega (arith, first, s.allowed.more);
-      smaller_known = rw first (begun_known (graph_of f.pool) a.self.now.low f.pool.size a.most b.room b.alone s.small s.allowed s.filled);
-    }
+    rw c.first-first.ensures (begun_known (graph_of f.pool) a.self.now.low f.pool.size a.most b.room b.alone s.small s.allowed s.filled)
 
 pub next_allowed-set-requires-clause-small : goal.next_allowed-set-requires-clause-small
 next_allowed-set-requires-clause-small c = let f = c.args.self.now.filling.now in omega (arith, entries_few f.pool (fits f))

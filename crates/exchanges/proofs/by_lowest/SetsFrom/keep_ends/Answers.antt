@@ -1,14 +1,8 @@
 use Prim.Native.Nat.{◌<◌, ◌^◌}
 use native.Mathlib.Omega.{arith}
-use Rattle.exchanges.proofs.ByLowest.{begins_alone, begins_next, stride, kept_start, kept_more}
+use Rattle.exchanges.proofs.ByLowest.{begins_next, stride, kept_more}
 use Rattle.exchanges.proofs.Changed.{changed_end}
 use Rattle.exchanges.proofs.by_lowest.SetsFrom.keep_ends.Goals as goal
-
-pub loop-set-init : goal.loop-set-init
-loop-set-init c =
-    let a = c.args in
-    let s = a.self.now in
-    rw c.first-first.ensures (begins_alone s.low, kept_start s.low s.filling.now.pool.size a.closing a.most a.table.now)
 
 pub loop-set-preserved : goal.loop-set-preserved
 loop-set-preserved c =
@@ -18,9 +12,6 @@ loop-set-preserved c =
     let small : c.loop-set.set < 2 ^ n = omega arith in
     let (begins, done) = c.loop-set.invariant in
     rw (stride s.low c.first-first.ensures) (begins_next begins, kept_more s.low n a.closing a.most a.table.now c.requires.room small begins done c.closing_within.ensures)
-
-pub returns : goal.returns
-returns c = changed_end (2 ^ c.args.self.now.filling.now.pool.size) c.loop-set.invariant.1 (omega (arith, c.loop-set-test.false))
 
 -- where no other set comes after
 pub returns-2 : goal.returns-2

@@ -1,10 +1,7 @@
 use mathlib.Core.Bool.{false}
 use native.Mathlib.Omega.{arith}
-use Rattle.exchanges.proofs.ByLowest.{before_none, still_held, before_more, before_all}
+use Rattle.exchanges.proofs.ByLowest.{still_held, before_more, before_all}
 use Rattle.exchanges.proofs.filling.Filling.fill_allowed_sets.Goals as goal
-
-pub loop-low-init : goal.loop-low-init
-loop-low-init c = before_none c.args.self.now false (rw c.sets.ensures at c.clear_table.ensures)
 
 pub fill_exchanges-requires-clause-held : goal.fill_exchanges-requires-clause-held
 fill_exchanges-requires-clause-held c = still_held c.args.self.now false (rw c.sets.ensures at c.clear_table.ensures) c.loop-low.invariant

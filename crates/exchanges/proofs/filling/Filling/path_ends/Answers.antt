@@ -10,15 +10,12 @@ use lib.Count.{count_trailing_zeros}
 use Rattle.pool.specs.Value.{graph_of}
 use Rattle.kep.proofs.Parts.{part_le}
 use Rattle.pool.proofs.ValueLaws.{entries_few}
-use Rattle.kep.proofs.Sifting.{sifting_start, sifting_le}
+use Rattle.kep.proofs.Sifting.{sifting_le}
 use Rattle.kep.proofs.Ends.{ends_several}
 use Rattle.exchanges.proofs.Given.{fits, few, known_length}
 use Rattle.exchanges.proofs.Looking.{vertex, look, looked}
 use Rattle.exchanges.proofs.filling.Filling.path_ends.Goals.{else-met-eq0, then-met-eq0}
 use Rattle.exchanges.proofs.filling.Filling.path_ends.Goals as goal
-
-pub loop-left-init : goal.loop-left-init
-loop-left-init c = sifting_start
 
 pub overflow_sub-before : goal.overflow_sub-before
 overflow_sub-before c = omega (arith, part_le c.loop-left.invariant.inside)

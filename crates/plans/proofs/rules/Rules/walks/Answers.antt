@@ -1,10 +1,7 @@
-use mathlib.Core.Path.{refl, sym, ◌∙◌}
+use mathlib.Core.Path.{sym, ◌∙◌}
 use Rattle.pool.specs.Value.{graph_of}
 use Rattle.plans.proofs.CheckArcs.{walk_next, walk_stop, walk_end}
 use Rattle.plans.proofs.rules.Rules.walks.Goals as goal
-
-pub loop-taker-init : goal.loop-taker-init
-loop-taker-init c = refl
 
 pub returns-then-not-arc : goal.returns-then-not-arc
 returns-then-not-arc c =

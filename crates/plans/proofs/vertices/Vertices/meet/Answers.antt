@@ -4,11 +4,8 @@ use lib.Dec.{ltb, ltb→lt}
 use Rattle.kep.proofs.ListLaws.{all_each}
 use Rattle.kep.proofs.Rest.{each_here}
 use Rattle.kep.proofs.Tests.{from_true, from_false}
-use Rattle.plans.proofs.Meeting.{meeting_start, meeting_stop, meeting_next, meeting_end}
+use Rattle.plans.proofs.Meeting.{meeting_stop, meeting_next, meeting_end}
 use Rattle.plans.proofs.vertices.Vertices.meet.Goals as goal
-
-pub loop-vertex-init : goal.loop-vertex-init
-loop-vertex-init c = meeting_start c.args.self.listed.now c.args.met.0 (omega arith)
 
 pub returns-then-has : goal.returns-then-has
 returns-then-has c =

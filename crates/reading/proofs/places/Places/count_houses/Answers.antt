@@ -19,9 +19,6 @@ returns-in_err-kind c =
     let p = err_from_is_err_and c.from_residual.result c.from_residual.ensures.1 in
     rw (p.1, p.2, spot) (scan_stop _ h c.loop-at.invariant (read_here _ h c.loop-at.invariant _ met c.read_record.ensures))
 
-pub overflow_add-houses : goal.overflow_add-houses
-overflow_add-houses c = omega (arith, c.loop-at.invariant.few, c.args.self.now.few)
-
 pub loop-at-preserved : goal.loop-at-preserved
 loop-at-preserved c =
     let h = c.loop-at-test.true in

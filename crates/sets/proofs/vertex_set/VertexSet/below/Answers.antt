@@ -1,14 +1,10 @@
 use mathlib.Core.Path.{sym}
 use native.Mathlib.Omega.{arith}
-use lib.Pow.{pow_pos}
 use Rattle.kep.proofs.Operations.{one_shl, below_set}
 use Rattle.sets.proofs.vertex_set.VertexSet.below.Goals as goal
 
 pub returns-then-end-gt15 : goal.returns-then-end-gt15
 returns-then-end-gt15 c = sym (below_set 16 c.args.end 16 (omega arith) (λ u l. (λ _. l, λ _. omega arith)))
-
-pub overflow_sub-result : goal.overflow_sub-result
-overflow_sub-result c = let n = c.args.end in rw (one_shl 16 n (omega arith)) (pow_pos n)
 
 pub returns : goal.returns
 returns c =
