@@ -207,9 +207,6 @@ module _ (l n closing : ℕ) (most : Option ℕ) (d : List ℕ) where
   abbrev Kept : ℕ → List ℕ → Type 0
   Kept k t = Changed (λ i. (i < 2 ^ n) × Begins l i) k (kept_of most closing d) d t
 
-  pub kept_start : Kept (2 ^ l) d
-  kept_start = changed_none (2 ^ l) (λ i b c. absurd (omega (arith, begins_le c.1)))
-
   pub kept_more : {t : List ℕ} {s kept : ℕ} → 2 ^ n ≤ length d → s < 2 ^ n → Begins l s → Kept s t → kept ≡ closing_at most closing s
       → Kept (s + 2 ^ suc l) (set t s (bit_and (get_or t s 0) kept))
   kept_more {t} {s} room small b c e =
@@ -258,9 +255,6 @@ Before k s = (0 < s) × (lowest s < k)
 module _ (f : Filling) (filled : Bool) {d t : List ℕ} (begun : Changed (λ i. i ≡ i) (2 ^ f.pool.size) (λ s. counted filled (ends (graph_of f.pool) s)) d t) where
   abbrev Entries : (ℕ → Type 0) → List ℕ → List ℕ → Type 0
   Entries P u v = Changed P (2 ^ f.pool.size) (entry_of f.pool f.limits) u v
-
-  pub before_none : Entries (Before 0) t t
-  before_none = changed_none (2 ^ f.pool.size) (λ i b h. absurd (omega arith))
 
   module _ {u : List ℕ} {l : ℕ} (c : Entries (Before l) t u) where
     pub still_held : Held filled (graph_of f.pool) l (2 ^ f.pool.size) u

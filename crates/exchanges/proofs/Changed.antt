@@ -29,10 +29,6 @@ module _ {P : ℕ → Type 0} {f : ℕ → ℕ} where
       kept : (i : ℕ) → (i < next → P i → ⊥) → get_or (set t k x) i 0 ≡ get_or d i 0
       kept i n = get_or-set_other t k i x 0 (λ q. n (omega arith) (rw q here)) ∙ c.kept i (λ l h. n (omega arith) h)
 
-  -- with nothing between
-  pub changed_next : {d t : List ℕ} {k x : ℕ} → Changed P k f d t → k < length d → P k → x ≡ f k → Changed P (k + 1) f d (set t k x)
-  changed_next {k = k} c room here e = changed_store (k + 1) c room here e (omega arith) (λ i a b _. absurd (omega arith))
-
   -- past the end of the table
   pub changed_end : {d t : List ℕ} {k : ℕ} (n : ℕ) → Changed (λ i. (i < n) × P i) k f d t → n ≤ k → Changed P n f d t
   changed_end n c le = record { same_length = c.same_length; done = λ i b h. c.done i (omega arith) (b, h); kept = λ i m. c.kept i (λ _ h. m h.0 h.1) }

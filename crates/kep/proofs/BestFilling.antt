@@ -4,7 +4,7 @@ use mathlib.Core.List.{List, ◌++◌, Memᴰ}
 use mathlib.Core.Logic.{◌↔◌}
 use mathlib.Core.Path.{◌≡◌, refl, sym, ap, ap₂, ◌∙◌}
 use Prim.Native.Nat.{ℕ, zero, suc, max, ◌+◌, ◌-◌, ◌≤◌, ◌<◌}
-use native.Mathlib.Nat.{le_antisymm, zero-max, max-zero}
+use native.Mathlib.Nat.{le_antisymm, max-zero}
 use native.Mathlib.Omega.{arith}
 use lib.Bits.{bit_and}
 use lib.ListN.{get_or}
@@ -14,7 +14,7 @@ use Rattle.kep.specs.Table.{Marked}
 use Rattle.kep.specs.computed.Table.{marked_parts, greatest_of, best}
 use Rattle.kep.specs.inner.BestFilling.{offer, best_offered, every_part, looked, next_best}
 use Rattle.kep.proofs.Tests.{from_true, is_true}
-use Rattle.kep.proofs.Parts.{part_refl, part_le, rest_part}
+use Rattle.kep.proofs.Parts.{part_le, rest_part}
 use Rattle.kep.proofs.Down.{parts_from, parts_down, from_step, step_part, from_none, in_parts}
 use Rattle.kep.proofs.Tables.{get_d_tabulate}
 use Rattle.kep.proofs.Greatest.{greatest_bound, greatest_least, greatest_same}
@@ -34,9 +34,6 @@ pub record Trying (f : ℕ → ℕ) (s t found : ℕ) : Type 0 where
   pub left : max found (greatest_of f (parts_from t s)) ≡ greatest_of f (parts_down s)
 
 module _ {f : ℕ → ℕ} {s : ℕ} where
-  pub trying_start : Trying f s s 0
-  trying_start = record { inside = part_refl s; left = zero-max (greatest_of f (parts_down s)) }
-
   pub trying_next : {t found next : ℕ} → 0 < t → Trying f s t found → next ≡ max found (f t) → Trying f s (bit_and (t - 1) s) next
   unfolding greatest_of
   trying_next {t} p h n =

@@ -4,13 +4,13 @@ use mathlib.Core.Logic.{◌↔◌, ◌⊎◌, inl, inr, ⊎_elim}
 use mathlib.Core.Path.{◌≡◌, ap, sym, refl, ◌∙◌}
 use Prim.Native.Nat.{ℕ, ◌-◌, ◌^◌, ◌≤◌, ◌<◌}
 use native.Mathlib.Omega.{arith}
-use lib.Bits.{bit_and, bit_or, or_zero_l, or_zero_r, or_comm}
+use lib.Bits.{bit_and, bit_or, or_zero_r, or_comm}
 use lib.Dec.{T}
 use Rattle.kep.specs.Sets.{has, counted, set_where, Part}
 use Rattle.kep.specs.inner.Lowest.{lowest}
 use Rattle.kep.proofs.Tests.{and_iff, and_left, or_cases, or_left, or_right}
 use Rattle.kep.proofs.SetLaws.{not_in_empty, same_bits, same_set, has_below, lowest_is, empty_set}
-use Rattle.kep.proofs.Parts.{has_or, has_and, part_le, part_refl, part_trans}
+use Rattle.kep.proofs.Parts.{has_or, has_and, part_le, part_trans}
 use Rattle.kep.proofs.Vertices.{in_where, in_power, in_without, with_without, or_with}
 use Rattle.kep.proofs.Operations.{or_holds}
 use Rattle.kep.proofs.SetLoops.{where_reach}
@@ -86,9 +86,6 @@ pub record Sifting (k : ℕ) (p : ℕ → Bool) (m left found : ℕ) : Type 0 wh
   pub comes : bit_or found (sift k p left) ≡ sift k p m
 
 module _ {k : ℕ} {p : ℕ → Bool} {m : ℕ} where
-  pub sifting_start : Sifting k p m m 0
-  sifting_start = record { inside = part_refl m; comes = or_zero_l (sift k p m) }
-
   pub sifting_done : {left found : ℕ} → left ≡ 0 → Sifting k p m left found → found ≡ sift k p m
   sifting_done {left} {found} z h = sym (or_zero_r found) ∙ ap (bit_or found) (sym (ap (sift k p) z ∙ sift_none k p)) ∙ h.comes
 

@@ -1,7 +1,7 @@
 -- The vertices met, kept as a set while code goes through a record: 13.
 use mathlib.Core.List.{List, ◌∷◌}
 use mathlib.Core.Logic.{⊎_elim}
-use mathlib.Core.Path.{◌≡◌, refl, sym, ◌∙◌, ap}
+use mathlib.Core.Path.{◌≡◌, sym, ◌∙◌, ap}
 use Prim.Native.Nat.{ℕ, ◌+◌, ◌^◌, ◌≤◌, ◌<◌}
 use native.Mathlib.Omega.{arith}
 use lib.Bits.{bit_or, or_lt}
@@ -29,9 +29,6 @@ met_new m x xs n = rw (fresh_new m x xs n, met_with)
 pub record Meeting (xs : List ℕ) (m₀ m i : ℕ) : Type 0 where
   pub narrow : m < 2 ^ 16
   pub left : met_with m (drop i xs) ≡ met_with m₀ xs
-
-pub meeting_start : (xs : List ℕ) (m : ℕ) → m < 2 ^ 16 → Meeting xs m m 0
-meeting_start xs m b = record { narrow = b; left = refl }
 
 module _ {xs : List ℕ} {m₀ m i : ℕ} (k : Meeting xs m₀ m i) where
   module _ (h : i < length xs) where

@@ -11,8 +11,6 @@ use lib.ListN.{length, get_or, set, drop}
 use lib.Seq.{drop-set-lt, drop_at}
 use lib.Dec.{T}
 use lib.Pow.{pow_mono, pow_pos}
-use mir.Syntax.{w32, w64}
-use mir.Val.{Fits}
 use borrow.Author.Tests.{eq-eqb, ne_eqb}
 use Rattle.pool.specs.declared.value.Pool.{Pool}
 use Rattle.kep.specs.Lists.{tabulate, written_to}
@@ -115,9 +113,3 @@ module _ (v : ℕ → ℕ) (m : ℕ → Bool) {k entries : ℕ} (are : entries �
     entries_written e =
         rw are at e
         ∙ ap₂ (λ (xs ys : List ℕ). xs ++ ys) (tabulate_below (best_offered offers) (best v m) k offers_best) (ap (drop k) written ∙ drop_at (tabulate v k) (drop k table) k (length_tabulate v k))
-
--- ---- widths
-
--- a sum of two entries fits a word
-pub sum_fits : {a b : ℕ} → Fits w32 a → Fits w32 b → Fits w64 (a + b)
-sum_fits h k = omega arith
