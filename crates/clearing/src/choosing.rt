@@ -27,7 +27,7 @@ impl Choice<'_> {
                 let at = PlanRecord::WIDTH * records;
                 plan[at..at + PlanRecord::WIDTH].copy_from_slice(&taken.bytes);
                 records += 1;
-                free = VertexSet(free.0 - taken.set.0);
+                free = free - taken.set;
             } else {
                 free = free.without(free.lowest());
             }

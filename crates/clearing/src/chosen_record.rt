@@ -16,7 +16,7 @@ impl Choice<'_> {
     pub(crate) fn members_in(&self, set: VertexSet) -> u8
         ensures { result ≡ worth_of (member_worth (graph_of self.now.pool)) self.now.pool.size set.0 }
     {
-        VertexSet(set.0 & self.pool.members().0).size()
+        (set & self.pool.members()).size()
     }
 
     // The kind of an exchange, by its first vertex.

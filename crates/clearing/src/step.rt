@@ -57,7 +57,7 @@ impl Choice<'_> {
         };
         let end = 1 + self.more_from(first);
         let path = Path {
-            set: VertexSet(0).with(first),
+            set: VertexSet::EMPTY.with(first),
             last: first,
         };
         let mut bytes = [PlanRecord::FILLER; PlanRecord::WIDTH];

@@ -5,18 +5,18 @@ use Prim.Native.Nat.{ℕ, suc, ◌+◌, ◌-◌, ◌*◌, ◌/◌, ◌%◌, ◌^
 use native.Mathlib.Nat.{add-mul-mod_self_right, eq-zero-or-pos, add-zero, mod-lt, mul-le-mul_right, suc-mul}
 use native.Mathlib.Decide.{dec_lt}
 use native.Mathlib.Omega.{arith}
-use lib.Bits.{bit_and, and_mask, and_comm}
+use lib.Bits.{bit_and, and_mask, and_comm, and_le_l}
 use lib.Count.{ones, ones_cat, count_trailing_zeros}
 use lib.Dec.{T, eqb→eq}
 use lib.Pow.{pow_mono, pow_pos, pow-add, split, low, mod-pow-add}
-use Rattle.kep.specs.Sets.{has, Part, size_below}
+use Rattle.kep.specs.Sets.{has, Part, size_below, lowest_below, without_vertex}
 use Rattle.kep.specs.inner.Lowest.{lowest}
 use Rattle.kep.proofs.Tests.{and_left, and_both}
-use Rattle.kep.proofs.SetLaws.{IsLowest, some_bit, below_pow, has_below, has_full, lowest_is, lowest_eq, trailing_lowest}
+use Rattle.kep.proofs.SetLaws.{IsLowest, lowest_below_lem, some_bit, below_pow, has_below, has_full, lowest_is, lowest_eq, trailing_lowest}
 use Rattle.kep.proofs.Parts.{has_and, part_le, part_refl, rest_part, and_part}
 use Rattle.kep.proofs.Vertices.{in_power, in_without, power_part, bit_le, with_without, ones_with}
 use Rattle.kep.proofs.Worth.{worth_rest}
-use Rattle.kep.proofs.Operations.{size_ones}
+use Rattle.kep.proofs.Operations.{size_ones, without_part, without_old}
 use native.Mathlib.Numerals.{add-one}
 use Rattle.kep.proofs.Down.{step_part, step_below, step_greatest}
 
@@ -52,6 +52,14 @@ module _ (s : ℕ) (p : 0 < s) where
 
   pub trailing_is : (k : ℕ) → s < 2 ^ k → count_trailing_zeros k s ≡ lowest s
   trailing_is k b = sym (lowest_eq s (count_trailing_zeros k s) (trailing_lowest k s p b))
+
+-- so the operation may take it out, and the empty set stays empty
+pub lowest_taken : (k s : ℕ) → s < 2 ^ k → bit_and s (s - 1) ≡ without_vertex k s (lowest_below k s)
+lowest_taken k s b = go (eq-zero-or-pos s)
+  where
+    go : (s ≡ 0) ⊎ (0 < s) → bit_and s (s - 1) ≡ without_vertex k s (lowest_below k s)
+    go (inl z) = rw z (omega (arith, and_le_l 0 0, part_le (without_part k 0 (lowest_below k 0))))
+    go (inr p) = and_comm s (s - 1) ∙ lowest_out s p ∙ rw (lowest_below_lem k s p b) (sym (without_old k s b (lowest s) (lowest_is s p).is_in))
 
 -- ---- the sets whose lowest vertex is l: those of remainder 2 ^ l by 2 ^ suc l
 

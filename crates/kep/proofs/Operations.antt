@@ -1,7 +1,7 @@
 -- The operations on sets of vertices below k, as the machine carries them out.
-use mathlib.Core.Bool.{Bool, true, not, ◌&&◌, ◌||◌}
+use mathlib.Core.Bool.{Bool, true, false, not, ◌&&◌, ◌||◌}
 use mathlib.Core.Logic.{◌↔◌, ◌⊎◌, inl, inr, ⊎_elim}
-use mathlib.Core.Path.{◌≡◌, sym, ap, ◌∙◌}
+use mathlib.Core.Path.{◌≡◌, refl, ap, ◌∙◌}
 use Prim.Native.Nat.{ℕ, ◌+◌, ◌-◌, ◌*◌, ◌%◌, ◌^◌, ◌≤◌, ◌<◌}
 use native.Mathlib.Decide.{dec_le}
 use native.Mathlib.Nat.{one-mul, mod-eq_of_lt}
@@ -12,8 +12,8 @@ use lib.Dec.{T, eqb, ltb, leb, eqb→eq, ltb→lt, lt→ltb, leb→le, le→leb,
 use lib.Pow.{pow-lt, pow_mono, pow_pos, ones_lt}
 use Rattle.kep.specs.Sets.{has, Part, set_where, size_below, with_vertex, without_vertex}
 use Rattle.kep.proofs.Tests.{passes?, and_iff, and_left, and_both, or_cases, or_left, or_right, eq→eqb}
-use Rattle.kep.proofs.SetLaws.{same_set, has_below, has_full}
-use Rattle.kep.proofs.Parts.{has_or, has_and, in_rest, and_part}
+use Rattle.kep.proofs.SetLaws.{same_set, empty_set, not_in_empty, has_below, has_full}
+use Rattle.kep.proofs.Parts.{has_or, has_and, has_rest, and_part, part_and}
 use Rattle.kep.proofs.Vertices.{in_where, where_lt, in_power, in_without, or_with, or_without}
 use Rattle.kep.proofs.Worth.{worth_ones}
 
@@ -37,8 +37,8 @@ below_set k n m l same =
 
 -- and those of them that are not below h
 pub between_set : (k h n : ℕ)
-    → set_where k (λ u. ltb u n) - bit_and (set_where k (λ u. ltb u h)) (set_where k (λ u. ltb u n)) ≡ set_where k (λ u. leb h u && ltb u n)
-between_set k h n = sym (where_set k (a - bit_and b a) (λ u. leb h u && ltb u n) (omega (arith, where_lt k (λ u. ltb u n))) same)
+    → set_where k (λ u. has (set_where k (λ v. ltb v n)) u && not (has (set_where k (λ v. ltb v h)) u)) ≡ set_where k (λ u. leb h u && ltb u n)
+between_set k h n = where_set k (set_where k (λ u. leb h u && ltb u n)) (λ u. has a u && not (has b u)) (where_lt k (λ u. leb h u && ltb u n)) same
   where
     a : ℕ
     a = set_where k (λ u. ltb u n)
@@ -46,18 +46,20 @@ between_set k h n = sym (where_set k (a - bit_and b a) (λ u. leb h u && ltb u n
     b : ℕ
     b = set_where k (λ u. ltb u h)
 
-    same : (u : ℕ) → u < k → T (leb h u && ltb u n) ↔ T (has (a - bit_and b a) u)
+    same : (u : ℕ) → u < k → T (has a u && not (has b u)) ↔ T (has (set_where k (λ v. leb h v && ltb v n)) u)
     same u l =
+        let (to, from) = and_iff (has a u) (not (has b u)) in
         let (both, one) = and_iff (leb h u) (ltb u n) in
-        let (to, from) = in_rest (and_part b a) u in (
-          λ t. from (
-            (in_where k (λ v. ltb v n) u).1 (l, (both t).1),
-            λ i. omega (arith, leb→le h u (both t).0, ltb→lt u h ((in_where k (λ v. ltb v h) u).0 (and_left (has b u) (has a u) (rw has_and at i))).1),
+        let (inside, there) = in_where k (λ v. leb h v && ltb v n) u in (
+          λ t. there (
+            l,
+            one (le→leb h u (not_below (λ m. T_not (has b u) (to t).1 ((in_where k (λ v. ltb v h) u).1 (l, lt→ltb u h m)))), ((in_where k (λ v. ltb v n) u).0 (to t).0).1),
           ),
-          λ i. let (inside, out) = to i in
-              one (
-                le→leb h u (not_below (λ m. out (rw has_and (and_both (has b u) (has a u) ((in_where k (λ v. ltb v h) u).1 (l, lt→ltb u h m)) inside)))),
-                ((in_where k (λ v. ltb v n) u).0 inside).1,
+          λ i.
+              let (high, low) = both (inside i).1 in
+              from (
+                (in_where k (λ v. ltb v n) u).1 (l, low),
+                not_T (has b u) (λ j. omega (arith, leb→le h u high, ltb→lt u h ((in_where k (λ v. ltb v h) u).0 j).1)),
               ),
         )
       where
@@ -86,6 +88,38 @@ module _ (k s : ℕ) (b : s < 2 ^ k) where
   pub size_ones : size_below k s ≡ ones s
   unfolding size_below
   size_ones = worth_ones (λ _. true) k s ∙ ap ones (where_set k s (λ u. has s u && true) b (λ u l. (and_left (has s u) true, λ h. and_both (has s u) true h tt)))
+
+  -- the vertices that are in t too, and those that are not
+  pub both_and : (t : ℕ) → set_where k (λ u. has s u && has t u) ≡ bit_and s t
+  both_and t = where_set k (bit_and s t) (λ u. has s u && has t u) (omega (arith, and_le_l s t)) (λ u _. rw (has_and s t u) ((λ h. h), (λ h. h)))
+
+  pub rest_and : (t : ℕ) → set_where k (λ u. has s u && not (has t u)) ≡ s - bit_and t s
+  rest_and t =
+      where_set k (s - bit_and t s) (λ u. has s u && not (has t u)) (omega arith)
+      (λ u _. rw (has_rest (and_part t s) u, has_and t s u, same (has s u) (has t u)) ((λ h. h), (λ h. h)))
+    where
+      same : (a b : Bool) → (a && not b) ≡ (a && not (b && a))
+      same true true = refl
+      same true false = refl
+      same false b = refl
+
+  pub rest_less : {t : ℕ} → Part t s → set_where k (λ u. has s u && not (has t u)) ≡ s - t
+  rest_less {t} h = rest_and t ∙ ap (λ (u : ℕ). s - u) (part_and h)
+
+  -- nothing is left of s without t where s is a part of t
+  pub none_left : (t : ℕ) → T (eqb (set_where k (λ u. has s u && not (has t u))) 0) ↔ Part s t
+  none_left t = (
+    λ z. record {
+      within = λ u h.
+          elim (passes? (has t u)) [
+            | inl i ↦ i
+            | inr n ↦ absurd (not_in_empty u (rw (eqb→eq _ _ z) at ((in_where k (λ u. has s u && not (has t u)) u).1 (has_below k s u b h, and_both (has s u) (not (has t u)) h (not_T (has t u) n)))))
+          ];
+    },
+    λ p. eq→eqb _ _ (empty_set _ (λ u h.
+        let (i, n) = (and_iff (has s u) (not (has t u))).0 ((in_where k (λ u. has s u && not (has t u)) u).0 h).1 in
+        T_not (has t u) n (p.within u i))),
+  )
 
   pub with_or : (v : ℕ) → v < k → with_vertex k s v ≡ bit_or s (2 ^ v)
   unfolding with_vertex

@@ -31,7 +31,7 @@ impl Rules {
             return Err(Cause::PlanLength.into());
         }
         let mut before = Before {
-            met: VertexSet(0),
+            met: VertexSet::EMPTY,
             least: 0,
             served: 0,
         };

@@ -8,8 +8,7 @@ use native.Mathlib.Decide.{dec_lt}
 use native.Mathlib.Nat.{le_trans, mul-le-mul_right}
 use native.Mathlib.Omega.{arith}
 use borrow.Author.Tests.{lt-ltb}
-use lib.Bits.{bit_and}
-use lib.Dec.{T, eqb, ltb, leb, eqb→eq, ltb→lt, lt→ltb, leb→le, le→leb}
+use lib.Dec.{T, eqb, ltb, leb, ltb→lt, lt→ltb, leb→le, le→leb}
 use lib.ListN.{length, get_or, get_or-eq_default}
 use lib.Pow.{pow_mono}
 use Rattle.pool.specs.declared.value.Pool.{Pool}
@@ -17,12 +16,11 @@ use Rattle.kep.specs.Sets.{has, counted, set_where, worth_of, Part}
 use Rattle.kep.specs.Graph.{WellFormed, is_member, givers}
 use Rattle.kep.specs.Table.{weeks_worth, per_member}
 use Rattle.pool.specs.Value.{graph_of, arc_allowed, takers_fit, arcs_fit, weeks_in, most_weeks_waited, weeks_fit, pool_fits}
-use Rattle.kep.proofs.Tests.{and_iff, and_iff₃, implies_iff, same_test, eq→eqb}
+use Rattle.kep.proofs.Tests.{and_iff, and_iff₃, implies_iff, same_test}
 use Rattle.kep.proofs.ListLaws.{all_below_lem}
 use Rattle.kep.proofs.SetLaws.{has_below, not_in_empty}
-use Rattle.kep.proofs.Parts.{part_and, part_of_and}
 use Rattle.kep.proofs.Vertices.{in_where}
-use Rattle.kep.proofs.Operations.{one_shl}
+use Rattle.kep.proofs.Operations.{one_shl, none_left}
 use Rattle.kep.proofs.SetLoops.{where_reach}
 use Rattle.kep.proofs.Worth.{counted_le, worth_le}
 
@@ -54,9 +52,10 @@ module _ (size altruists : ℕ) (gives : List ℕ) where
 
   -- as code tests it
   pub takers_test : (u : ℕ) → get_or gives u 0 < 2 ^ 16 → {allowed : ℕ} → allowed ≡ takers_allowed size altruists u
-      → eqb (bit_and (get_or gives u 0) allowed) (get_or gives u 0) ≡ takers_fit size altruists gives u
-  takers_test u b e =
-      same_test _ (takers_fit size altruists gives u) (λ t. (takers_part u b).1 (part_of_and (rw e at (eqb→eq _ _ t)))) (λ t. eq→eqb _ _ (rw e (part_and ((takers_part u b).0 t))))
+      → eqb (set_where 16 (λ v. has (get_or gives u 0) v && not (has allowed v))) 0 ≡ takers_fit size altruists gives u
+  takers_test u b {allowed} e =
+      let (to, from) = none_left 16 (get_or gives u 0) b allowed in
+      same_test _ (takers_fit size altruists gives u) (λ t. (takers_part u b).1 (rw e at (to t))) (λ t. from (rw e ((takers_part u b).0 t)))
 
 -- ---- the test
 

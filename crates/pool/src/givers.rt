@@ -19,7 +19,7 @@ fn givers_of(pool: &Pool, v: u8) -> VertexSet
     requires { v < 14 }
     ensures { result.0 ≡ giver_set (graph_of pool.now) v }
 {
-    let mut givers = VertexSet(0);
+    let mut givers = VertexSet::EMPTY;
     for u in 0..14 {
         if pool.gives_to(u, v) {
             givers = givers.with(u);

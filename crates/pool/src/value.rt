@@ -72,9 +72,7 @@ impl Pool {
     pub fn members(self) -> VertexSet
         ensures { result.0 ≡ set_where 16 (is_member (graph_of self)) }
     {
-        let places = VertexSet::below(self.size).0;
-        let altruists = VertexSet::below(self.altruists).0;
-        VertexSet(places - (altruists & places))
+        VertexSet::below(self.size) - VertexSet::below(self.altruists)
     }
 
     fn fits(&self) -> bool
@@ -89,19 +87,23 @@ impl Pool {
         requires altruists_bound { self.now.altruists ≤ self.now.size }
         ensures { result ≡ arcs_fit self.now.size self.now.altruists self.now.gives }
     {
-        let members = self.members().0;
+        let members = self.members();
         (0..14).all(|u| self.takers_fit(members, u))
     }
 
-    fn takers_fit(&self, members: u16, u: usize) -> bool
+    fn takers_fit(&self, members: VertexSet, u: usize) -> bool
         requires place { u < 14 }
         requires size_bound { self.now.size ≤ 14 }
-        requires members { members ≡ set_where 16 (is_member (graph_of self.now)) }
+        requires members { members.0 ≡ set_where 16 (is_member (graph_of self.now)) }
         ensures { result ≡ takers_fit self.now.size self.now.altruists self.now.gives u }
     {
         let places = usize::from(self.size);
-        let allowed = if u < places { members } else { 0 };
-        self.gives[u] & allowed == self.gives[u]
+        let allowed = if u < places {
+            members
+        } else {
+            VertexSet::EMPTY
+        };
+        (VertexSet(self.gives[u]) - allowed).is_empty()
     }
 
     // Has no place waited longer than it may, and what is not there not at all?

@@ -59,7 +59,7 @@ impl Places<'_> {
     fn takers_of(&self, giver: &Record) -> VertexSet
         ensures { result.0 ≡ set_where (length self.now.records.now) (λ v. record_gives giver.now (get_or self.now.records.now v [])) }
     {
-        let mut set = VertexSet(0);
+        let mut set = VertexSet::EMPTY;
         for (v, taker) in self.records.iter().enumerate() {
             if gives(giver, taker) {
                 set = set.with(v as u8);

@@ -1,12 +1,17 @@
 // A set of vertices as one value.
-ghost use Rattle.std.specs.Prelude.{◌≡◌, ◌^◌, ltb};
+ghost use Rattle.std.specs.Prelude.{◌≡◌, ◌&&◌, ◌^◌, not, ltb, eqb, if◌then◌else◌, Some, None};
 ghost use Rattle.kep.specs.Sets.{has as has_vertex, counted, lowest_below, set_where, size_below, with_vertex, without_vertex};
+
+use std::ops::{BitAnd, Sub};
 
 // The sum of 2 to the power v over the vertices v of the set.
 #[derive(Clone, Copy, Debug, PartialEq, Eq)]
 pub struct VertexSet(pub u16);
 
 impl VertexSet {
+    // The set with no vertex.
+    pub const EMPTY: VertexSet = VertexSet(0);
+
     // The vertices before the end, of those that a set has room for.
     pub fn below(end: u8) -> VertexSet
         ensures { result.0 ≡ set_where 16 (λ u. ltb u end) }
@@ -31,6 +36,26 @@ impl VertexSet {
         self.0.trailing_zeros() as u8
     }
 
+    // Takes its lowest vertex out and tells it; `None` for the empty set, which stays as it is.
+    pub fn take_lowest(&mut self) -> Option<u8>
+        ensures told { result ≡ (if eqb self.old.0 0 then None else Some (lowest_below 16 self.old.0)) }
+        ensures left { self.new.0 ≡ without_vertex 16 self.old.0 (lowest_below 16 self.old.0) }
+    {
+        if self.is_empty() {
+            return None;
+        }
+        let lowest = self.lowest();
+        self.0 &= self.0 - 1;
+        Some(lowest)
+    }
+
+    // Has it no vertex?
+    pub fn is_empty(self) -> bool
+        ensures { result ≡ eqb self.0 0 }
+    {
+        self == VertexSet::EMPTY
+    }
+
     // How many vertices it has.
     pub fn size(self) -> u8
         ensures { result ≡ size_below 16 self.0 }
@@ -51,6 +76,28 @@ impl VertexSet {
     {
         let one = bit(v);
         VertexSet((self.0 | one) - one)
+    }
+}
+
+// `a & b`: the vertices in both.
+impl BitAnd for VertexSet {
+    type Output = VertexSet;
+
+    ghost bitand_gives = { λ a b both. both.0 ≡ set_where 16 (λ u. has_vertex a.0 u && has_vertex b.0 u) };
+
+    fn bitand(self, other: VertexSet) -> VertexSet {
+        VertexSet(self.0 & other.0)
+    }
+}
+
+// `a - b`: the vertices of the first that are not in the second.
+impl Sub for VertexSet {
+    type Output = VertexSet;
+
+    ghost sub_gives = { λ a b rest. rest.0 ≡ set_where 16 (λ u. has_vertex a.0 u && not (has_vertex b.0 u)) };
+
+    fn sub(self, other: VertexSet) -> VertexSet {
+        VertexSet(self.0 & !other.0)
     }
 }
 
