@@ -1,5 +1,5 @@
 -- The choice of the plan as a loop over the tables: the exchanges made so far, their records, and the vertices still free.
-use mathlib.Core.Bool.{Bool, true, false}
+use mathlib.Core.Bool.{Bool, true, false, not, ◌&&◌}
 use mathlib.Core.List.Memᴰ
 use mathlib.Core.List.{List, [], ◌∷◌, ◌++◌, append_assoc}
 use mathlib.Core.Logic.{◌≢◌}
@@ -17,7 +17,7 @@ use Rattle.pool.specs.declared.limits.Limits.{Limits}
 use Rattle.kep.specs.Lists.{distinct, Each, none, also}
 use Rattle.pool.specs.Value.{graph_of}
 use Rattle.kep.specs.Graph.{Graph}
-use Rattle.kep.specs.Sets.{has, Part, set_of, lowest_below, without_vertex}
+use Rattle.kep.specs.Sets.{has, Part, set_of, set_where, lowest_below, without_vertex}
 use Rattle.kep.specs.inner.Lowest.{lowest}
 use Rattle.kep.specs.computed.Table.{best_of, everything}
 use Rattle.tables.specs.Calls.{worth_in}
@@ -33,7 +33,7 @@ use Rattle.kep.proofs.SetLaws.{IsLowest, lowest_is, lowest_below_lem, has_below}
 use Rattle.kep.proofs.Parts.{part_le, part_trans, in_rest}
 use Rattle.kep.proofs.SetOf.{has_set_of}
 use Rattle.kep.proofs.Vertices.{bit_le, in_without}
-use Rattle.kep.proofs.Operations.{without_old}
+use Rattle.kep.proofs.Operations.{without_old, rest_less}
 use Rattle.kep.proofs.ExchangeFacts.{exchange_distinct, fits_few}
 use Rattle.kep.proofs.Bytes.{records_snoc, record_length}
 use Rattle.kep.proofs.Legal.{Legal, in_order_told}
@@ -208,11 +208,10 @@ module _ (g : Graph) (lc lp : ℕ) (fit : FitRecords g lc lp) where
                 rw without (omega (arith, bit_le f.free (lowest f.free) low.is_in, pow_pos (lowest f.free)), (made_skip m some (none_good g lc lp w means low cannot), clean))
             go (first c way t) = absurd (some_none t z)
 
-        pub step_one : {taken : Taken} {dead : List ℕ} → told ≡ Some taken → Clean (f.free - 2 ^ lowest f.free) dead
-            → (taken.set.0 ≤ f.free) × (f.free - taken.set.0 < f.free)
-            × (Made g lc lp w plan₀ (with_next plan records taken.bytes) (f.free - taken.set.0) (records + 1) × Clean (f.free - taken.set.0) dead)
+        pub step_one : {taken : Taken} {next : ℕ} {dead : List ℕ} → told ≡ Some taken → f.free < 2 ^ 16 → next ≡ set_where 16 (λ u. has f.free u && not (has taken.set.0 u))
+            → Clean (f.free - 2 ^ lowest f.free) dead → (next < f.free) × (Made g lc lp w plan₀ (with_next plan records taken.bytes) next (records + 1) × Clean next dead)
         unfolding set_of
-        step_one {taken} {dead} one clean = go step
+        step_one {taken} {next} {dead} one wide e clean = go step
           where
             -- the exchange takes the lowest vertex with it
             less : (ys : List ℕ) → Part (set_of (lowest f.free ∷ ys)) f.free → T (distinct (lowest f.free ∷ ys)) → Part (f.free - set_of (lowest f.free ∷ ys)) (f.free - 2 ^ lowest f.free)
@@ -222,13 +221,12 @@ module _ (g : Graph) (lc lp : ℕ) (fit : FitRecords g lc lp) where
                   (in_without f.free (lowest f.free) x low.is_in).1 (was, λ e. new ((has_set_of (lowest f.free ∷ ys) once x).1 (Memᴰ.head e)));
             }
 
-            go : Stepped g f told
-                → (taken.set.0 ≤ f.free) × (f.free - taken.set.0 < f.free)
-                × (Made g lc lp w plan₀ (with_next plan records taken.bytes) (f.free - taken.set.0) (records + 1) × Clean (f.free - taken.set.0) dead)
+            go : Stepped g f told → (next < f.free) × (Made g lc lp w plan₀ (with_next plan records taken.bytes) next (records + 1) × Clean next dead)
             go (nothing t cannot) = absurd (some_none one t)
             go (first {ys = ys} c way t) =
                 let taken_first = leftmost_first_good g lc lp w means low c way in
-                rw (some_same (sym one ∙ t)) (part_le taken_first.good.inside, omega (arith, part_le taken_first.good.inside, pow_pos (lowest f.free)), (made_take m positive taken_first refl, clean_part (less ys taken_first.good.inside (exchange_distinct g taken_first.good.told.0)) clean))
+                let rest : next ≡ f.free - set_of (lowest f.free ∷ ys) = rw (some_same (sym one ∙ t)) at e ∙ rest_less 16 f.free wide taken_first.good.inside in
+                rw (rest, some_same (sym one ∙ t)) (omega (arith, part_le taken_first.good.inside, pow_pos (lowest f.free)), (made_take m positive taken_first refl, clean_part (less ys taken_first.good.inside (exchange_distinct g taken_first.good.told.0)) clean))
 
 -- a record more is within a plan buffer that has one for each vertex
 pub part_end : {size records k k₀ : ℕ} → records < size → 16 * size ≤ k₀ → k ≡ k₀ → 16 * records + 16 ≤ k

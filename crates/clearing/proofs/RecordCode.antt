@@ -1,9 +1,8 @@
 -- The record of an exchange as code writes it: the vertices in front, the part behind them filled up, and the last two bytes.
-use mathlib.Core.Bool.{Bool, true, false}
+use mathlib.Core.Bool.{Bool, true, false, ◌&&◌}
 use mathlib.Core.List.{List, [], ◌∷◌, ◌++◌, append_assoc}
 use mathlib.Core.Path.{◌≡◌, refl, sym, ap, ap₂, ◌∙◌}
-use Prim.Native.Nat.{ℕ, suc, ◌+◌, ◌-◌, ◌≤◌, ◌<◌}
-use native.Mathlib.Nat.{lt_of_le_of_lt}
+use Prim.Native.Nat.{ℕ, suc, ◌+◌, ◌-◌, ◌^◌, ◌≤◌, ◌<◌}
 use native.Mathlib.Omega.{arith}
 use borrow.Rule.Slice.PartMut.{mid_of, put_mid}
 use lib.Bits.{bit_and, and_le_r}
@@ -15,12 +14,12 @@ use lib.Seq.{set_at, append_snoc}
 use borrow.Author.Tests.{lt-ltb, le-ltb}
 use Rattle.pool.specs.declared.value.Pool.{Pool}
 use Rattle.kep.specs.Graph.{Graph, is_altruist, is_member}
-use Rattle.kep.specs.Sets.{set_where, size_below, worth_of}
+use Rattle.kep.specs.Sets.{has, set_where, size_below, worth_of}
 use Rattle.pool.specs.Value.{graph_of, pool_fits}
 use Rattle.kep.specs.Table.{member_worth, served}
 use Rattle.kep.specs.Plan.{kind_of, record_of}
 use Rattle.kep.proofs.Vertices.{where_lt}
-use Rattle.kep.proofs.Operations.{size_ones}
+use Rattle.kep.proofs.Operations.{size_ones, both_and}
 use Rattle.pool.proofs.ValueLaws.{fits_size}
 use Rattle.kep.proofs.Worth.{worth_and}
 use Rattle.kep.proofs.SetLoops.{where_reach}
@@ -30,10 +29,13 @@ use Rattle.kep.proofs.Bytes.{padded, padded_length}
 -- ---- its last two bytes
 
 -- the members in a set, as code counts them
-pub members_counted : (p : Pool) → T (pool_fits p) → (s : ℕ) → size_below 16 (bit_and s (set_where 16 (is_member (graph_of p)))) ≡ worth_of (member_worth (graph_of p)) p.size s
+pub members_counted : (p : Pool) → T (pool_fits p) → (s : ℕ)
+    → size_below 16 (set_where 16 (λ u. has s u && has (set_where 16 (is_member (graph_of p))) u)) ≡ worth_of (member_worth (graph_of p)) p.size s
 members_counted p fits s =
     let members = set_where 16 (is_member (graph_of p)) in
-    size_ones 16 (bit_and s members) (lt_of_le_of_lt (and_le_r s members) (where_lt 16 (is_member (graph_of p))))
+    let wide : members < 2 ^ 16 = where_lt 16 (is_member (graph_of p)) in
+    rw (both_and 16 s members wide)
+    (size_ones 16 (bit_and s members) (omega (arith, and_le_r s members)))
     ∙ sym (worth_and (is_member (graph_of p)) p.size s ∙ ap (λ (x : ℕ). ones (bit_and s x)) (where_reach p.size 16 (is_member (graph_of p)) inside))
   where
     inside : (u : ℕ) → T (is_member (graph_of p) u) → (u < p.size) × (u < 16)

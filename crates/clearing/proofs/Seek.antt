@@ -15,13 +15,13 @@ use lib.Pow.{pow_pos}
 use lib.Seq.{get_or-set_same, get_or-set_other, take-length}
 use borrow.Author.Tests.{not-true, not-false}
 use borrow.Rule.Slice.PartMut.{put_mid, mid_of, put_same}
-use Rattle.kep.specs.Sets.{has, Part, counted, set_of, lowest_below, with_vertex, without_vertex}
+use Rattle.kep.specs.Sets.{has, Part, counted, set_of, set_where, lowest_below, with_vertex, without_vertex}
 use Rattle.kep.specs.Exchange.{last_of}
-use Rattle.kep.proofs.Tests.{or_right, from_true, from_false, eq→eqb, and_iff}
+use Rattle.kep.proofs.Tests.{or_right, is_false, from_true, from_false, eq→eqb, and_iff}
 use Rattle.kep.proofs.SetLaws.{IsLowest, nonempty, lowest_is, lowest_below_lem, has_below, has_none, not_in_empty}
 use Rattle.kep.proofs.Parts.{part_le, part_refl, part_trans, has_and, has_or, in_rest, and_part}
-use Rattle.kep.proofs.Operations.{with_cases, with_or, with_new, without_old}
-use Rattle.kep.proofs.Vertices.{in_power, in_with, with_part, with_without, in_without, bit_le}
+use Rattle.kep.proofs.Operations.{with_cases, with_or, with_new, without_old, both_and, rest_and, rest_less}
+use Rattle.kep.proofs.Vertices.{where_lt, in_power, in_with, with_part, with_without, in_without, bit_le}
 use Rattle.sets.specs.declared.vertex_set.VertexSet.{VertexSet}
 use Rattle.kep.specs.inner.Paths.{Field, Next, Completes, Completable, stop, go_on}
 use Rattle.clearing.specs.inner.Seeking.{Ways, field_of, ends_of, open_at, DeadEnds, KeptBut, kept_dead, Entering, Sought, nowhere, found}
@@ -54,6 +54,36 @@ pub kept_as : (dead : List ℕ) (path u : ℕ) → path < 2 ^ 16 → T (has path
     → set dead (path - 2 ^ u) (bit_or (get_or dead (path - 2 ^ u) 0) (2 ^ u)) ≡ kept_dead false dead path u
 kept_as dead path u wide i l small = rw (without_old 16 path wide u i, with_or 16 (get_or dead (path - 2 ^ u) 0) small u l)
 
+-- ---- the vertices to try, as code finds them
+
+module _ (w : Ways) {path rest met : ℕ}
+    (wide : w.free < 2 ^ 16)
+    (part : Part path w.free)
+    (beside : rest ≡ set_where 16 (λ v. has w.free v && not (has path v)))
+    (common : met ≡ set_where 16 (λ v. has w.goal v && has rest v))
+  where
+    rest_is : rest ≡ w.free - path
+    rest_is = beside ∙ rest_less 16 w.free wide part
+
+    met_is : met ≡ bit_and w.goal (w.free - path)
+    met_is = common ∙ both_and 16 w.goal rest (omega (arith, rest_is)) ∙ ap (bit_and w.goal) rest_is
+
+    pub open_none : (dead : List ℕ) (u more : ℕ) → eqb met 0 ≡ true → 0 ≡ open_at w dead path u more
+    unfolding open_at
+    open_none dead u more z = rw (← met_is, z) (go (not (eqb more 0)) _)
+      where
+        go : (b : Bool) (n : ℕ) → 0 ≡ counted (b && false) n
+        go true n = refl
+        go false n = refl
+
+    pub open_some : (dead : List ℕ) (u more : ℕ) {on left : ℕ} → more ≢ 0 → eqb met 0 ≡ false → on ≡ set_where 16 (λ v. has (get_or w.gives u 0) v && has rest v)
+        → left ≡ set_where 16 (λ v. has on v && not (has (get_or dead path 0) v)) → left ≡ open_at w dead path u more
+    unfolding open_at
+    open_some dead u more {on} {left} some z ways untried =
+        let on_is : on ≡ bit_and (get_or w.gives u 0) (w.free - path) = ways ∙ both_and 16 (get_or w.gives u 0) rest (omega (arith, rest_is)) ∙ ap (bit_and (get_or w.gives u 0)) rest_is in
+        rw (← met_is, z, is_false (eqb more 0) (λ t. some (eqb→eq more 0 t)), ← on_is)
+        (untried ∙ rest_and 16 on (rw ways (where_lt 16 _)) (get_or dead path 0))
+
 -- ---- a path by its set and its last vertex
 
 pub few_last : {free path u : ℕ} → free < 2 ^ 14 → path ≤ free → T (has path u) → u < 14
@@ -75,6 +105,23 @@ last_fresh f (w ∷ ys) path u v c =
 pub record Open (f : Field) (path u left more : ℕ) : Type 0 where
   pub nexts : (v : ℕ) → T (has left v) → Next f path u v × (0 < more)
   pub tried : (v : ℕ) → Next f path u v → (T (has left v) → ⊥) → Completable f (2 ^ v + path) v → ⊥
+
+-- ---- what take_lowest tells of the vertices left
+
+module _ {left : ℕ} {told : Option ℕ} (tells : told ≡ (if eqb left 0 then None else Some (lowest_below 16 left))) where
+  pub none_left : told ≡ None → left ≡ 0
+  none_left z = go (eqb left 0) refl tells
+    where
+      go : (b : Bool) → eqb left 0 ≡ b → told ≡ (if b then None else Some (lowest_below 16 left)) → left ≡ 0
+      go true q _ = eqb→eq left 0 (from_true q)
+      go false _ e = absurd (some_none e z)
+
+  pub lowest_left : {v : ℕ} → told ≡ Some v → (left ≢ 0) × (v ≡ lowest_below 16 left)
+  lowest_left {v} one = go (eqb left 0) refl tells
+    where
+      go : (b : Bool) → eqb left 0 ≡ b → told ≡ (if b then None else Some (lowest_below 16 left)) → (left ≢ 0) × (v ≡ lowest_below 16 left)
+      go true _ e = absurd (some_none one e)
+      go false q e = ((λ z. from_false q (eq→eqb left 0 z)), some_same (sym one ∙ e))
 
 -- ---- what is lent
 
@@ -197,9 +244,16 @@ pub record Trying (s : Ways) (dead₀ bytes₀ : List ℕ) (path u : ℕ) (dead 
 module _ {s : Ways} {dead₀ bytes₀ dead bytes : List ℕ} {path u left v : ℕ}
     (wide : s.free < 2 ^ 14)
     (t : Trying s dead₀ bytes₀ path u dead bytes left)
-    (some : left ≢ 0)
-    (low : v ≡ lowest_below 16 left)
+    {lowest_told : Option ℕ}
+    (tells : lowest_told ≡ (if eqb left 0 then None else Some (lowest_below 16 left)))
+    (one : lowest_told ≡ Some v)
   where
+    some : left ≢ 0
+    some = (lowest_left tells one).0
+
+    low : v ≡ lowest_below 16 left
+    low = (lowest_left tells one).1
+
     abbrev G : Field
     G = field_of s
 
@@ -222,11 +276,11 @@ module _ {s : Ways} {dead₀ bytes₀ dead bytes : List ℕ} {path u left v : �
     longer_le = part_le longer_part
 
     -- v left out of those left
-    pub others_are : {rest : ℕ} → rest ≡ without_vertex 16 left v → rest ≡ left - 2 ^ v
-    others_are e = e ∙ without_old 16 left t.fits v is_low.is_in
+    others_are : {rest : ℕ} → rest ≡ without_vertex 16 left (lowest_below 16 left) → rest ≡ left - 2 ^ v
+    others_are e = rw (← low) at e ∙ without_old 16 left t.fits v is_low.is_in
 
     -- fewer are left
-    pub onward_falls : {rest : ℕ} → rest ≡ without_vertex 16 left v → rest < left
+    pub onward_falls : {rest : ℕ} → rest ≡ without_vertex 16 left (lowest_below 16 left) → rest < left
     onward_falls e = omega (arith, others_are e, bit_le left v is_low.is_in, pow_pos v)
 
     -- the path with v, as code makes it
@@ -283,7 +337,7 @@ module _ {s : Ways} {dead₀ bytes₀ dead bytes : List ℕ} {path u left v : �
                 (ap (λ (l : List ℕ). v ∷ l) (rw (b, whole, take-length bytes, drop_of_length-le bytes {i = length bytes} (omega arith), append-nil)))
 
         -- it finds nothing: the others are left, and nothing is written
-        pub none_there : {dead' : List ℕ} {others : ℕ} → others ≡ without_vertex 16 left v → told ≡ None → length dead' ≡ 16384 → DeadEnds G dead' → KeptBut longer v dead dead'
+        pub none_there : {dead' : List ℕ} {others : ℕ} → others ≡ without_vertex 16 left (lowest_below 16 left) → told ≡ None → length dead' ≡ 16384 → DeadEnds G dead' → KeptBut longer v dead dead'
             → Trying s dead₀ bytes₀ path u dead' (put_mid 1 (length bytes - 1) bytes written) others
         none_there {dead'} {others} removed z long failed kept = go (rw longer_is at rest)
           where

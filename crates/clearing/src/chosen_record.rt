@@ -12,7 +12,6 @@ use sets::VertexSet;
 
 impl Choice<'_> {
     // The members in a set.
-    #[tactic(auto, using(crate::proofs::RecordCode::members_counted))]
     pub(crate) fn members_in(&self, set: VertexSet) -> u8
         ensures { result ≡ worth_of (member_worth (graph_of self.now.pool)) self.now.pool.size set.0 }
     {

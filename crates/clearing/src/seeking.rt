@@ -2,7 +2,7 @@
 // looked at only after all ways on. So what it finds first comes first byte by byte. What failed is kept, so no set with a last
 // vertex is searched twice.
 ghost use Rattle.std.specs.Prelude.{◌≡◌, ◌≤◌, ◌<◌, ◌^◌, T, length, if◌then◌else◌, Some, None};
-ghost use Rattle.kep.specs.Sets.{has};
+ghost use Rattle.kep.specs.Sets.{has, Part};
 
 use sets::VertexSet;
 
@@ -59,18 +59,18 @@ impl Step<'_> {
     // search of all paths.
     #[tactic(auto, unfolding(crate::specs::inner::Seeking::open_at))]
     fn open_at(&self, dead: &[u16; SETS], path: Path, more: usize) -> VertexSet
-        requires { path.set.0 ≤ self.now.free.0 }
+        requires { Part path.set.0 self.now.free.0 }
         ensures { result.0 ≡ open_at (ways_of self.now) dead.now path.set.0 path.last more }
     {
         if more == 0 {
-            return VertexSet(0);
+            return VertexSet::EMPTY;
         }
-        let rest = self.free.0 - path.set.0;
-        if self.goal.0 & rest == 0 {
-            return VertexSet(0);
+        let rest = self.free - path.set;
+        if (self.goal & rest).is_empty() {
+            return VertexSet::EMPTY;
         }
-        let ways = self.gives[path.last as usize] & rest;
-        VertexSet(ways - (dead[path.set.0 as usize] & ways))
+        let ways = VertexSet(self.gives[path.last as usize]) & rest;
+        ways - VertexSet(dead[path.set.0 as usize])
     }
 
     // Nothing is left to go on to: tells the path's set where it may end, else keeps that it failed.
@@ -103,8 +103,7 @@ impl Step<'_> {
         ensures sought { Sought (field_of (ways_of self.now)) path.set.0 path.last bytes.old result bytes.new }
     {
         let mut left = self.open_at(dead, path, bytes.len());
-        while left.0 != 0 {
-            let v = left.lowest();
+        while let Some(v) = left.take_lowest() {
             let longer = Path {
                 set: path.set.with(v),
                 last: v,
@@ -113,7 +112,6 @@ impl Step<'_> {
                 bytes[0] = v;
                 return Some(set);
             }
-            left = left.without(v);
         }
         self.end_at(dead, path)
     }

@@ -6,7 +6,7 @@ use Prim.Native.Nat.{ℕ, ◌+◌, ◌-◌, ◌*◌, ◌%◌, ◌^◌, ◌≤◌
 use native.Mathlib.Decide.{dec_le}
 use native.Mathlib.Nat.{one-mul, mod-eq_of_lt}
 use native.Mathlib.Omega.{arith}
-use lib.Bits.{bit_and, bit_or, or_lt, or_add_and, and_le_l}
+use lib.Bits.{bit_and, bit_or, or_lt, or_add_and, and_le_l, and_le_r}
 use lib.Count.{ones}
 use lib.Dec.{T, eqb, ltb, leb, eqb→eq, ltb→lt, lt→ltb, leb→le, le→leb, T_not, not_T}
 use lib.Pow.{pow-lt, pow_mono, pow_pos, ones_lt}
@@ -84,15 +84,16 @@ pub without_part : (k s v : ℕ) → Part (without_vertex k s v) s
 unfolding without_vertex
 without_part k s v = record { within = λ u h. and_left (has s u) (not (eqb u v)) ((in_where k (λ u. has s u && not (eqb u v)) u).0 h).1 }
 
+-- the vertices of s that are in t too
+pub both_and : (k s t : ℕ) → t < 2 ^ k → set_where k (λ u. has s u && has t u) ≡ bit_and s t
+both_and k s t b = where_set k (bit_and s t) (λ u. has s u && has t u) (omega (arith, and_le_r s t)) (λ u _. rw (has_and s t u) ((λ h. h), (λ h. h)))
+
 module _ (k s : ℕ) (b : s < 2 ^ k) where
   pub size_ones : size_below k s ≡ ones s
   unfolding size_below
   size_ones = worth_ones (λ _. true) k s ∙ ap ones (where_set k s (λ u. has s u && true) b (λ u l. (and_left (has s u) true, λ h. and_both (has s u) true h tt)))
 
-  -- the vertices that are in t too, and those that are not
-  pub both_and : (t : ℕ) → set_where k (λ u. has s u && has t u) ≡ bit_and s t
-  both_and t = where_set k (bit_and s t) (λ u. has s u && has t u) (omega (arith, and_le_l s t)) (λ u _. rw (has_and s t u) ((λ h. h), (λ h. h)))
-
+  -- the vertices that are not in t
   pub rest_and : (t : ℕ) → set_where k (λ u. has s u && not (has t u)) ≡ s - bit_and t s
   rest_and t =
       where_set k (s - bit_and t s) (λ u. has s u && not (has t u)) (omega arith)

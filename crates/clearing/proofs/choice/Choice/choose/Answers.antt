@@ -1,14 +1,15 @@
+use mathlib.Core.Bool.{not, ◌&&◌}
 use mathlib.Core.List.{List}
 use mathlib.Core.Logic.{◌≢◌}
 use mathlib.Core.Path.{◌≡◌, sym, ◌∙◌}
-use Prim.Native.Nat.{ℕ, ◌+◌, ◌-◌, ◌^◌, ◌≤◌, ◌<◌}
+use Prim.Native.Nat.{ℕ, ◌+◌, ◌-◌, ◌^◌, ◌<◌}
 use native.Mathlib.Omega.{arith}
 use lib.ListN.{get_or}
 use Rattle.std.proofs.Common.{Option, Some, None}
 use Rattle.pool.specs.declared.value.Pool.{Pool}
 use Rattle.pool.specs.declared.limits.Limits.{Limits}
 use Rattle.pool.specs.Value.{graph_of}
-use Rattle.kep.specs.Sets.{lowest_below, without_vertex}
+use Rattle.kep.specs.Sets.{has, set_where, lowest_below, without_vertex}
 use Rattle.kep.specs.inner.Lowest.{lowest}
 use Rattle.kep.specs.computed.Table.{best_of}
 use Rattle.kep.specs.Plan.{FitRecords}
@@ -50,10 +51,9 @@ module _ {p : Pool} {l : Limits} {givers exchanges best : List ℕ} (k : Choosin
           step_none (graph_of p) l.cycle l.chain fit (worth_in p) (means k.hold free m.inside) m gain step none (omega (arith, m.inside, entries_few p k.fits)) found e clean
 
       -- one is
-      goes_on : {taken : Taken} → told ≡ Some taken
-          → (taken.set.0 ≤ free) × (free - taken.set.0 < free)
-          × (MadeOf p l plan₀ (with_next plan records taken.bytes) (free - taken.set.0) (records + 1) × Clean (free - taken.set.0) dead)
-      goes_on one = step_one (graph_of p) l.cycle l.chain fit (worth_in p) (means k.hold free m.inside) m gain step one clean
+      goes_on : {taken : Taken} → told ≡ Some taken → {next : ℕ} → next ≡ set_where 16 (λ u. has free u && not (has taken.set.0 u))
+          → (next < free) × (MadeOf p l plan₀ (with_next plan records taken.bytes) next (records + 1) × Clean next dead)
+      goes_on one e = step_one (graph_of p) l.cycle l.chain fit (worth_in p) (means k.hold free m.inside) m gain step one (omega (arith, m.inside, entries_few p k.fits)) e clean
 
 pub loop-free-init : goal.loop-free-init
 loop-free-init c =
@@ -72,20 +72,15 @@ take_exchange-requires-clause-some c = nonempty c.args.self.now.choosing c.loop-
 pub slice_bounds-copy_from_slice-end : goal.slice_bounds-copy_from_slice-end
 slice_bounds-copy_from_slice-end c = part_end (room c.args.self.now.choosing c.loop-free.invariant.made c.loop-free-test.true) c.requires.room c.loop-free.auto.plan
 
-pub overflow_sub-free : goal.overflow_sub-free
-overflow_sub-free c =
-    let t = c.take_exchange.ensures in
-    omega (arith, (goes_on c.args.self.now.choosing c.loop-free.invariant.made c.loop-free-test.true t.stepped t.clean c.in-Some.is).0)
-
 pub loop-free-smaller-in-Some : goal.loop-free-smaller-in-Some
 loop-free-smaller-in-Some c =
     let t = c.take_exchange.ensures in
-    omega (arith, (goes_on c.args.self.now.choosing c.loop-free.invariant.made c.loop-free-test.true t.stepped t.clean c.in-Some.is).1)
+    (goes_on c.args.self.now.choosing c.loop-free.invariant.made c.loop-free-test.true t.stepped t.clean c.in-Some.is c.sub-free.ensures).0
 
 pub loop-free-preserved-in-Some : goal.loop-free-preserved-in-Some
 loop-free-preserved-in-Some c =
     let t = c.take_exchange.ensures in
-    let next = (goes_on c.args.self.now.choosing c.loop-free.invariant.made c.loop-free-test.true t.stepped t.clean c.in-Some.is).2 in
+    let next = (goes_on c.args.self.now.choosing c.loop-free.invariant.made c.loop-free-test.true t.stepped t.clean c.in-Some.is c.sub-free.ensures).1 in
     record { made = rw c.copy_from_slice.ensures.after next.0; clean = next.1 }
 
 pub loop-free-smaller : goal.loop-free-smaller

@@ -5,14 +5,11 @@ use borrow.Author.Rules.{rules}
 use borrow.Rule.Slice.PartMut.{put_mid, same_len_mid}
 use lib.ListN.{length}
 use Rattle.kep.proofs.Parts.{part_le}
-use Rattle.clearing.proofs.Seek.{next_lt, has_with, opens, ended, room, deeper_falls, deeper, kept_there, found_there, none_there, onward_falls}
+use Rattle.clearing.proofs.Seek.{next_lt, has_with, opens, ended, none_left, room, deeper_falls, deeper, kept_there, found_there, none_there, onward_falls}
 use Rattle.clearing.proofs.seeking.Step.+seek.Goals as goal
 
-pub open_at-left-requires : goal.open_at-left-requires
-open_at-left-requires t c = part_le c.requires.part
-
-pub loop-left-init : goal.loop-left-init
-loop-left-init t c =
+pub loop-v-init : goal.loop-v-init
+loop-v-init t c =
     record {
       long = c.told-dead;
       untouched = λ S n. refl;
@@ -23,52 +20,53 @@ loop-left-init t c =
     }
 
 pub slice_bounds-seek-count : goal.slice_bounds-seek-count
-slice_bounds-seek-count t c = room c.args.self.now.few c.loop-left.invariant c.loop-left-test.true c.lowest-v.ensures
+slice_bounds-seek-count t c = room c.args.self.now.few c.loop-v.invariant c.take_lowest.ensures.told c.in-Some.is
 
 pub slice_bounds-seek-start : goal.slice_bounds-seek-start
-slice_bounds-seek-start t c = room c.args.self.now.few c.loop-left.invariant c.loop-left-test.true c.lowest-v.ensures
+slice_bounds-seek-start t c = room c.args.self.now.few c.loop-v.invariant c.take_lowest.ensures.told c.in-Some.is
 
 pub seek-requires : goal.seek-requires
 seek-requires t c =
     let few = c.args.self.now.few in
-    let inv = c.loop-left.invariant in
-    let some = c.loop-left-test.true in
-    let low = c.lowest-v.ensures in
+    let inv = c.loop-v.invariant in
+    let tells = c.take_lowest.ensures.told in
     let put = c.with.ensures in
-    (omega (arith, deeper_falls few inv some low put), deeper few inv some low put (search rules))
+    (omega (arith, deeper_falls few inv tells c.in-Some.is put), deeper few inv tells c.in-Some.is put (search rules))
 
 pub bounds-bytes-0 : goal.bounds-bytes-0
 bounds-bytes-0 t c =
-    let b = c.loop-left.bytes in
+    let b = c.loop-v.bytes in
     let same : length (put_mid 1 (length b - 1) b c.seek.new.bytes) ≡ length b = same_len_mid 1 (length b - 1) b c.seek.new.bytes c.seek.auto.bytes in
-    omega (arith, same, room c.args.self.now.few c.loop-left.invariant c.loop-left-test.true c.lowest-v.ensures)
+    omega (arith, same, room c.args.self.now.few c.loop-v.invariant c.take_lowest.ensures.told c.in-Some.is)
 
-pub returns-in-Some : goal.returns-in-Some
-returns-in-Some t c =
+pub returns-in-Some-seek : goal.returns-in-Some-seek
+returns-in-Some-seek t c =
     let few = c.args.self.now.few in
-    let inv = c.loop-left.invariant in
-    let some = c.loop-left-test.true in
-    let low = c.lowest-v.ensures in
+    let inv = c.loop-v.invariant in
+    let tells = c.take_lowest.ensures.told in
     let put = c.with.ensures in
     let e = c.seek.ensures in
-    record { dead = e.dead; kept = kept_there few inv some low put e.kept; sought = rw (← c.in-Some.is) (found_there few inv some low put e.sought c.in-Some.is) }
+    record { dead = e.dead; kept = kept_there few inv tells c.in-Some.is put e.kept; sought = rw (← c.in-Some-seek.is) (found_there few inv tells c.in-Some.is put e.sought c.in-Some-seek.is) }
 
-pub loop-left-smaller : goal.loop-left-smaller
-loop-left-smaller t c = onward_falls c.args.self.now.few c.loop-left.invariant c.loop-left-test.true c.lowest-v.ensures c.without-left.ensures
+pub loop-v-smaller : goal.loop-v-smaller
+loop-v-smaller t c = onward_falls c.args.self.now.few c.loop-v.invariant c.take_lowest.ensures.told c.in-Some.is c.take_lowest.ensures.left
 
-pub loop-left-preserved : goal.loop-left-preserved
-loop-left-preserved t c =
+pub loop-v-preserved : goal.loop-v-preserved
+loop-v-preserved t c =
     let e = c.seek.ensures in
-    none_there c.args.self.now.few c.loop-left.invariant c.loop-left-test.true c.lowest-v.ensures c.with.ensures e.sought c.without-left.ensures c.in_default.is c.seek.array_long e.dead e.kept
+    let taken = c.take_lowest.ensures in
+    none_there c.args.self.now.few c.loop-v.invariant taken.told c.in-Some.is c.with.ensures e.sought taken.left c.in_default-seek.is c.seek.array_long e.dead e.kept
 
 pub end_at-requires : goal.end_at-requires
 end_at-requires t c = part_le c.requires.part
 
 pub invariant_of-longer : goal.invariant_of-longer
-invariant_of-longer t c = record { ends_there = has_with c.args.path.set.0 c.lowest-v.result c.with.ensures (search rules) (next_lt c.args.self.now.few c.loop-left.invariant c.loop-left-test.true c.lowest-v.ensures) }
+invariant_of-longer t c =
+    record { ends_there = has_with c.args.path.set.0 c.in-Some.v c.with.ensures (search rules) (next_lt c.args.self.now.few c.loop-v.invariant c.take_lowest.ensures.told c.in-Some.is) }
 
 pub returns : goal.returns
 returns t c =
-    let inv = c.loop-left.invariant in
-    let told = ended c.args.self.now.few inv.entering inv.opens c.loop-left-test.false refl inv.long inv.same_bytes inv.untouched c.end_at.ensures.told c.end_at.ensures.kept in
+    let inv = c.loop-v.invariant in
+    let none = none_left c.take_lowest.ensures.told c.in_default.is in
+    let told = ended c.args.self.now.few inv.entering inv.opens none refl inv.long inv.same_bytes inv.untouched c.end_at.ensures.told c.end_at.ensures.kept in
     record { dead = told.0; kept = told.1.0; sought = told.1.1 }

@@ -7,8 +7,8 @@ use Rattle.clearing.proofs.seeking.Step.+seek.Given as goal
 abbrev pub decreases-seek : goal.decreases-seek
 decreases-seek l = l.self.now.free.0 - l.path.set.0
 
-abbrev pub invariant-loop-left : goal.invariant-loop-left
-invariant-loop-left l = Trying (ways_of l.self) l.initial.dead l.initial.bytes l.path.set.0 l.path.last l.dead l.bytes l.left.0
+abbrev pub invariant-loop-v : goal.invariant-loop-v
+invariant-loop-v l = Trying (ways_of l.self) l.initial.dead l.initial.bytes l.path.set.0 l.path.last l.dead l.bytes l.left.0
 
-abbrev pub decreases-loop-left : goal.decreases-loop-left
-decreases-loop-left l = l.left.0
+abbrev pub decreases-loop-v : goal.decreases-loop-v
+decreases-loop-v l = l.left.0

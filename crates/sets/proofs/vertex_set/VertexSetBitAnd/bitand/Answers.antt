@@ -4,4 +4,4 @@ use Rattle.kep.proofs.Operations.{both_and}
 use Rattle.sets.proofs.vertex_set.VertexSetBitAnd.bitand.Goals as goal
 
 pub returns : goal.returns
-returns c = sym (both_and 16 c.args.self.0 (omega arith) c.args.other.0)
+returns c = sym (both_and 16 c.args.self.0 c.args.other.0 (omega arith))
