@@ -6,7 +6,6 @@ ghost use Rattle.clearing.specs.computed.Cleared.{plan_of, plan_written};
 ghost use Rattle.clearing.specs.inner.Taking.{TablesHold, Clean};
 
 use crate::choice::Choice;
-use crate::seeking::SETS;
 use plans::PlanRecord;
 use pool::{Limits, Pool, all_givers};
 use sets::VertexSet;
@@ -14,7 +13,7 @@ use sets::VertexSet;
 impl Choice<'_> {
     // Step by step, while something can be gained from the free vertices: an exchange is taken from the lowest on, or that vertex is
     // left out.
-    fn choose(&self, dead: &mut [u16; SETS], plan: &mut [u8]) -> usize
+    fn choose(&self, dead: &mut [u16; Pool::SETS], plan: &mut [u8]) -> usize
         requires clean { Clean (2 ^ self.now.pool.size - 1) dead.old }
         requires room { 16 * self.now.pool.size ≤ length plan.old }
         ensures records { result ≡ length (plan_of self.now.pool self.now.limits) }
@@ -58,5 +57,5 @@ pub(crate) fn write_plan(
         exchanges,
         best,
     };
-    choice.choose(&mut [0; SETS], plan)
+    choice.choose(&mut [0; Pool::SETS], plan)
 }

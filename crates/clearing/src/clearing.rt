@@ -85,10 +85,12 @@ fn test_lent(
     ensures { outcome_of result pool ≡ tested (lent_tests pool limits exchanges best plan) 0 (accepted pool) }
 {
     test_exchanges(pool, limits, exchanges)?;
-    if best < 1usize << pool.size {
+    let entries = 1usize << pool.size;
+    let bytes = PlanRecord::WIDTH * usize::from(pool.size);
+    if best < entries {
         return Err(Cause::BestTable.into());
     }
-    if plan < PlanRecord::WIDTH * pool.size as usize {
+    if plan < bytes {
         return Err(Cause::PlanBuffer.into());
     }
     Ok(())

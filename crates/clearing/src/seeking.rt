@@ -4,10 +4,8 @@
 ghost use Rattle.std.specs.Prelude.{◌≡◌, ◌≤◌, ◌<◌, ◌^◌, T, length, if◌then◌else◌, Some, None};
 ghost use Rattle.kep.specs.Sets.{has, Part};
 
+use pool::Pool;
 use sets::VertexSet;
-
-// As many sets as 14 vertices have: for each what failed from it on.
-pub(crate) const SETS: usize = 1 << 14;
 
 // A path from the lowest free vertex on: the set of its vertices, and its last vertex.
 #[derive(Clone, Copy)]
@@ -45,11 +43,11 @@ impl Step<'_> {
         ensures { result ≡ has (ends_of (ways_of self.now) path.set.0) path.last }
     {
         let best = self.best;
-        let here = path.set.0 as usize;
+        let here = usize::from(path.set.0);
         if !VertexSet(self.exchanges[here]).has(path.last) {
             return false;
         }
-        let all = self.free.0 as usize;
+        let all = usize::from(self.free.0);
         let rest = all - here;
         u64::from(best[here]) + u64::from(best[rest]) == u64::from(best[all])
     }
@@ -58,7 +56,7 @@ impl Step<'_> {
     // but what failed. None where no vertex is left at which the path may end: a first vertex with few givers would else cost a
     // search of all paths.
     #[tactic(auto, unfolding(crate::specs::inner::Seeking::open_at))]
-    fn open_at(&self, dead: &[u16; SETS], path: Path, more: usize) -> VertexSet
+    fn open_at(&self, dead: &[u16; Pool::SETS], path: Path, more: usize) -> VertexSet
         requires { Part path.set.0 self.now.free.0 }
         ensures { result.0 ≡ open_at (ways_of self.now) dead.now path.set.0 path.last more }
     {
@@ -69,12 +67,12 @@ impl Step<'_> {
         if (self.goal & rest).is_empty() {
             return VertexSet::EMPTY;
         }
-        let ways = VertexSet(self.gives[path.last as usize]) & rest;
-        ways - VertexSet(dead[path.set.0 as usize])
+        let ways = VertexSet(self.gives[usize::from(path.last)]) & rest;
+        ways - VertexSet(dead[usize::from(path.set.0)])
     }
 
     // Nothing is left to go on to: tells the path's set where it may end, else keeps that it failed.
-    fn end_at(&self, dead: &mut [u16; SETS], path: Path) -> Option<VertexSet>
+    fn end_at(&self, dead: &mut [u16; Pool::SETS], path: Path) -> Option<VertexSet>
         requires { path.set.0 ≤ self.now.free.0 }
         ensures told { result ≡ (if has (ends_of (ways_of self.now) path.set.0) path.last then Some path.set else None) }
         ensures kept { dead.new ≡ kept_dead (has (ends_of (ways_of self.now) path.set.0) path.last) dead.old path.set.0 path.last }
@@ -84,7 +82,7 @@ impl Step<'_> {
         }
         // By bits: with and without would ask again whether the vertex is below 16, on every path that fails.
         let bit = 1u16 << path.last;
-        let before = (path.set.0 - bit) as usize;
+        let before = usize::from(path.set.0 - bit);
         dead[before] |= bit;
         None
     }
@@ -93,7 +91,7 @@ impl Step<'_> {
     // more vertices may follow than there are bytes.
     pub(crate) fn seek(
         &self,
-        dead: &mut [u16; SETS],
+        dead: &mut [u16; Pool::SETS],
         bytes: &mut [u8],
         path: Path,
     ) -> Option<VertexSet>

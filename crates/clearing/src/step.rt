@@ -5,8 +5,9 @@ ghost use Rattle.pool.specs.Value.{graph_of};
 ghost use Rattle.clearing.specs.inner.Taking.{more_by, goal_by, Clean, pool_field, Stepped};
 
 use crate::choice::Choice;
-use crate::seeking::{Path, SETS, Step};
+use crate::seeking::{Path, Step};
 use plans::PlanRecord;
+use pool::Pool;
 use sets::VertexSet;
 
 // An exchange that a step takes: its set and its record.
@@ -34,13 +35,17 @@ impl Choice<'_> {
         if self.pool.is_altruist(v) {
             VertexSet(u16::MAX)
         } else {
-            VertexSet(self.givers[v as usize])
+            VertexSet(self.givers[usize::from(v)])
         }
     }
 
     // Takes an exchange from the lowest free vertex on if there is one with which the best can be reached. What fails is kept by sets
     // that have the lowest free vertex, which is free in no later step, so those find nothing kept on their own sets.
-    pub(crate) fn take_exchange(&self, free: VertexSet, dead: &mut [u16; SETS]) -> Option<Taken>
+    pub(crate) fn take_exchange(
+        &self,
+        free: VertexSet,
+        dead: &mut [u16; Pool::SETS],
+    ) -> Option<Taken>
         requires some { 0 < free.0 }
         requires inside { free.0 < 2 ^ self.now.pool.size }
         requires clean { Clean free.0 dead.old }
@@ -63,7 +68,7 @@ impl Choice<'_> {
         let mut bytes = [PlanRecord::FILLER; PlanRecord::WIDTH];
         bytes[0] = first;
         let set = step.seek(dead, &mut bytes[1..end], path)?;
-        bytes[PlanRecord::KIND] = self.kind_of(first).byte();
+        bytes[PlanRecord::KIND] = self.kind_of(first).into();
         bytes[PlanRecord::SERVED] = self.members_in(set);
         Some(Taken { set, bytes })
     }

@@ -86,7 +86,7 @@ impl SetsFrom<'_> {
         if self.filling.pool.is_altruist(self.low) {
             65535 - (1u16 << self.low)
         } else {
-            self.filling.givers[self.low as usize]
+            self.filling.givers[usize::from(self.low)]
         }
     }
 

@@ -10,12 +10,6 @@ use std::io::Read;
 // How many places the largest pool has.
 const PLACES: usize = 14;
 
-// How many sets of them there are.
-const SETS: usize = 1 << PLACES;
-
-// How many bytes their plan has at most: a record for each place.
-const PLAN: usize = PlanRecord::WIDTH * PLACES;
-
 pub(crate) fn try_set(rt: &impl Print, set: VertexSet, v: u8) -> io::Result<()> {
     let (with, without) = (set.with(v).0, set.without(v).0);
     let has = u8::from(set.has(v));
@@ -49,9 +43,9 @@ pub(crate) fn try_record(
 
 // Clears a pool value that stands on standard input.
 pub(crate) fn clear_next(rt: &impl Print, input: &mut impl Read, limits: Limits) -> io::Result<()> {
-    let mut exchanges = [0u16; SETS];
-    let mut best = [0u32; SETS];
-    let mut plan = [0u8; PLAN];
+    let mut exchanges = [0u16; Pool::SETS];
+    let mut best = [0u32; Pool::SETS];
+    let mut plan = [0u8; PlanRecord::PLAN];
     let pool = next_value(input)?;
     match clear_value(pool, limits, &mut exchanges, &mut best, &mut plan) {
         Ok(cleared) => {

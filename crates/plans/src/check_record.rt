@@ -60,7 +60,7 @@ impl Rules {
         requires joined { T (joined (graph_of self.now.pool) vertices.listed.now) }
         ensures { result ≡ ends_right (graph_of self.now.pool) bytes.now }
     {
-        let members = bytes[PlanRecord::SERVED] as usize;
+        let members = usize::from(bytes[PlanRecord::SERVED]);
         let of_chain = self.pool.is_altruist(vertices.first());
         match ExchangeKind::try_from(bytes[PlanRecord::KIND]) {
             Ok(ExchangeKind::Chain) => of_chain & (members + 1 == vertices.listed.len()),

@@ -12,12 +12,12 @@ pub enum ExchangeKind {
     Ring = 82,
 }
 
-impl ExchangeKind {
-    // The byte that tells it.
-    pub fn byte(self) -> u8
-        ensures { result ≡ byte_of self }
-    {
-        self as u8
+// The byte that tells a kind.
+impl From<ExchangeKind> for u8 {
+    ghost from_gives = { λ kind code. code ≡ byte_of kind };
+
+    fn from(kind: ExchangeKind) -> u8 {
+        kind as u8
     }
 }
 

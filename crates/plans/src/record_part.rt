@@ -2,6 +2,8 @@
 ghost use Rattle.std.specs.Prelude.{◌≡◌};
 ghost use Rattle.plans.specs.Record.{record_part, record_place};
 
+use reading::PoolRecord;
+
 // Where code needs a record's width, where a byte of its own stands or what stands behind its vertices, it goes by these names.
 #[derive(Clone, Copy)]
 pub struct PlanRecord {}
@@ -14,6 +16,9 @@ impl PlanRecord {
     pub const SERVED: usize = 15;
 
     pub const FILLER: u8 = 255;
+
+    // How many bytes the largest plan has: a record for each place of a pool.
+    pub const PLAN: usize = PlanRecord::WIDTH * PoolRecord::MOST;
 }
 
 // The sixteen bytes of record k, where k + 1 whole records stand there; else, as 01 asks, an empty part and no `None`: at the start of the plan.

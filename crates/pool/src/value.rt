@@ -23,6 +23,9 @@ pub struct Pool {
 impl Pool {
     pub const MOST_WEEKS: u16 = 999;
 
+    // How many sets the places of the largest pool have.
+    pub const SETS: usize = 1 << 14;
+
     // The pool with no place.
     pub fn empty() -> Pool
         ensures { result ≡ empty_pool }
@@ -65,7 +68,7 @@ impl Pool {
         requires { u < 14 }
         ensures { result ≡ (graph_of self.now).arc u v }
     {
-        u < self.size && v < self.size && VertexSet(self.gives[u as usize]).has(v)
+        u < self.size && v < self.size && VertexSet(self.gives[usize::from(u)]).has(v)
     }
 
     // All members, of the places that a set has room for.

@@ -33,9 +33,8 @@ pub(crate) type Record = [u8; PoolRecord::WIDTH];
 pub(crate) fn taken(bytes: &Record) -> u32
     ensures { result ≡ taken_of bytes.now }
 {
-    let low = pair(bytes, PoolRecord::TAKEN);
-    let high = pair(bytes, PoolRecord::TAKEN + 2);
-    u32::from(low) + 65536 * u32::from(high)
+    let at = PoolRecord::TAKEN;
+    u32::from_le_bytes([bytes[at], bytes[at + 1], bytes[at + 2], bytes[at + 3]])
 }
 
 // The weeks waited.

@@ -6,3 +6,4 @@ mod reporting;
 mod text;
 
 pub use reporting::{COUNTED, report};
+pub use text::ROOM;

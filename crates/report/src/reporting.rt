@@ -14,13 +14,7 @@ use reading::{PoolRecord, read_pool};
 // How many bytes of the pool file count as the whole file: two records more than a pool has at most.
 pub const COUNTED: usize = PoolRecord::WIDTH * (PoolRecord::MOST + 2);
 
-// How many sets of places the largest pool has.
-const SETS: usize = 1 << PoolRecord::MOST;
-
-// How many bytes its plan has at most: a record for each place.
-const PLAN: usize = PlanRecord::WIDTH * PoolRecord::MOST;
-
-// Writes the whole text to the front of the buffer and tells its length, if there is room for all of it; 1024 bytes always are enough.
+// Writes the whole text to the front of the buffer and tells its length, if there is room for all of it; `ROOM` bytes always are enough.
 pub fn report(pool: &[u8], limits: &[u8], out: &mut [u8]) -> Option<usize>
     ensures length { result ≡ text_outcome pool.now limits.now (length out.old) }
     ensures text { out.new ≡ text_left pool.now limits.now out.old }
@@ -71,9 +65,9 @@ fn compose_cleared(pool: Pool, limits: Limits) -> Result<Text, Refusal>
     ensures refusal { IfErr result (λ r. refused_line (number_of r.cause) r.at ≡ cleared_text pool limits) }
     ensures spot { IfErr result (λ r. r.at < 1000) }
 {
-    let mut exchanges = [0u16; SETS];
-    let mut best = [0u32; SETS];
-    let mut plan = [0u8; PLAN];
+    let mut exchanges = [0u16; Pool::SETS];
+    let mut best = [0u32; Pool::SETS];
+    let mut plan = [0u8; PlanRecord::PLAN];
     let cleared = clear_value(pool, limits, &mut exchanges, &mut best, &mut plan)?;
     let mut text = Text::new();
     text.push_plan(

@@ -6,7 +6,7 @@ ghost use Rattle.report.specs.inner.Writing.{pushed};
 use std::marker::Model;
 
 // No text that is printed is longer.
-const ROOM: usize = 1024;
+pub const ROOM: usize = 1024;
 
 // What was pushed, as far as there is room for it.
 // No `Display` with `write!`: their contracts do not say when a write succeeds, and `report` promises the whole text.

@@ -7,7 +7,7 @@ mod files;
 
 use failure::Failure;
 use files::{load, write_whole};
-use report::{COUNTED, report};
+use report::{COUNTED, ROOM, report};
 use std::io;
 use std::io::ErrorKind;
 use std::process::ExitCode;
@@ -35,9 +35,8 @@ fn run(rt: &(impl Files + Print)) -> Result<(), Failure> {
     print(rt, pool, limits).map_err(Failure::Output)
 }
 
-// No text is longer than 1024 bytes.
 fn print(rt: &impl Print, pool: &[u8], limits: &[u8]) -> io::Result<()> {
-    let mut text = [0u8; 1024];
+    let mut text = [0u8; ROOM];
     match report(pool, limits, &mut text) {
         Some(length) => write_whole(&mut io::writer(rt), &text[..length]),
         None => Ok(()),

@@ -39,7 +39,7 @@ impl VertexWorths {
         if self.size < 9 {
             self.fill_best_by::<256>(exchanges, table);
         } else {
-            self.fill_best_by::<16384>(exchanges, table);
+            self.fill_best_by::<{ Pool::SETS }>(exchanges, table);
         }
     }
 
@@ -87,16 +87,16 @@ fn fill_entries(entries: usize, offers: &[u32], table: &mut [u32])
 
 // Entry s, from what each set offers and the entries before it: every nonempty part t of s is tried, from s itself down. No branch
 // asks whether t is marked: an unmarked part only brings the entry of what is left, which is never above that of s.
-fn best_entry(s: usize, offers: &[u32], table: &[u32]) -> usize
+fn best_entry(s: usize, offers: &[u32], table: &[u32]) -> u64
     requires offers_long { s < length offers.now }
     requires table_long { s < length table.now }
     ensures { result ≡ next_best offers.now table.now s }
 {
-    let mut found: usize = 0;
+    let mut found: u64 = 0;
     let mut t = s;
     while t != 0 {
         let rest = s - t;
-        let sum = offers[t] as usize + table[rest] as usize;
+        let sum = u64::from(offers[t]) + u64::from(table[rest]);
         found = found.max(sum);
         t = (t - 1) & s;
     }

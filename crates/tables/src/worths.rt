@@ -75,5 +75,5 @@ fn vertex_worth(pool: Pool, v: usize) -> u32
 fn member_worth(weeks: u16) -> u32
     ensures { result ≡ per_member + weeks }
 {
-    MEMBER + weeks as u32
+    MEMBER + u32::from(weeks)
 }

@@ -1,3 +1,4 @@
+use borrow.Author.Rules.{rules}
 use native.Mathlib.Omega.{arith}
 use Rattle.pool.proofs.ValueLaws.{fits_size, entries_are}
 use Rattle.std.proofs.lemmas.Result.{err_from_is_err_and}
@@ -11,24 +12,26 @@ returns-in_err-test_exchanges c =
     let p = err_from_is_err_and c.from_residual.result c.from_residual.ensures.1 in
     rw (p.1, p.2) (behind a.pool a.limits a.exchanges a.best a.plan c.in_err-test_exchanges.ensures)
 
-pub overflow_shl-pool : goal.overflow_shl-pool
-overflow_shl-pool c = let a = c.args in omega (arith, fits_size a.pool (passed a.pool a.limits a.exchanges c.in_ok-test_exchanges.ensures).fits)
+pub overflow_shl-entries : goal.overflow_shl-entries
+overflow_shl-entries c = let a = c.args in omega (arith, fits_size a.pool (passed a.pool a.limits a.exchanges c.in_ok-test_exchanges.ensures).fits)
 
-pub returns-then-best-pool : goal.returns-then-best-pool
-returns-then-best-pool c =
+pub returns-then-best-entries : goal.returns-then-best-entries
+returns-then-best-entries c =
     let a = c.args in
     let told = c.in_ok-test_exchanges.ensures in
-    rw c.into.ensures (best_short a.pool a.limits a.exchanges a.best a.plan told (omega (arith, entries_are a.pool (passed a.pool a.limits a.exchanges told).fits)))
+    let are = entries_are a.pool (passed a.pool a.limits a.exchanges told).fits in
+    search (rules, best_short a.pool a.limits a.exchanges a.best a.plan told (omega (arith, are)))
 
-pub returns-then-plan-pool : goal.returns-then-plan-pool
-returns-then-plan-pool c =
+pub returns-then-plan-bytes : goal.returns-then-plan-bytes
+returns-then-plan-bytes c =
     let a = c.args in
     let told = c.in_ok-test_exchanges.ensures in
-    rw c.into-then-plan-pool.ensures
-    (plan_short a.pool a.limits a.exchanges a.best a.plan told (omega (arith, entries_are a.pool (passed a.pool a.limits a.exchanges told).fits)) c.if-plan-pool.true)
+    let are = entries_are a.pool (passed a.pool a.limits a.exchanges told).fits in
+    search (rules, plan_short a.pool a.limits a.exchanges a.best a.plan told (omega (arith, are)) (omega arith))
 
 pub returns : goal.returns
 returns c =
     let a = c.args in
     let told = c.in_ok-test_exchanges.ensures in
-    passes_all a.pool a.limits a.exchanges a.best a.plan told (omega (arith, entries_are a.pool (passed a.pool a.limits a.exchanges told).fits)) c.if-plan-pool.false
+    let are = entries_are a.pool (passed a.pool a.limits a.exchanges told).fits in
+    passes_all a.pool a.limits a.exchanges a.best a.plan told (omega (arith, are)) (omega arith)

@@ -14,7 +14,7 @@ pub bounds-offers-t : goal.bounds-offers-t
 bounds-offers-t c = omega (arith, part_le c.loop-t.invariant.inside)
 
 pub loop-t-preserved : goal.loop-t-preserved
-loop-t-preserved c = trying_next (omega arith) c.loop-t.invariant c.max-found.ensures
+loop-t-preserved c = trying_next (omega arith) c.loop-t.invariant (rw (← c.from.ensures, ← c.from-in-loop-t.ensures) c.max-found.ensures)
 
 pub returns : goal.returns
 unfolding next_best

@@ -39,6 +39,6 @@ returns c =
     let e = c.seek.ensures in
     let (clean, stepped) =
     one_taken c.args.self.now.choosing r.some r.inside c.lowest-first.ensures c.goal_from.ensures c.with.ensures r.clean e.kept e.sought c.more_from-end.ensures refl
-    c.in_ok-set.was (c.byte.ensures ∙ c.kind_of.ensures) c.members_in.ensures
+    c.in_ok-set.was (c.into.ensures ∙ c.kind_of.ensures) c.members_in.ensures
     in
     record { clean = clean; stepped = stepped }

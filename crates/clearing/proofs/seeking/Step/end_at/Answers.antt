@@ -9,8 +9,8 @@ use Rattle.clearing.proofs.seeking.Step.end_at.Goals as goal
 pub overflow_shl-bit : goal.overflow_shl-bit
 overflow_shl-bit c = omega (arith, few_last c.args.self.now.few c.requires c.args.path.ends_there)
 
-pub overflow_sub-before : goal.overflow_sub-before
-overflow_sub-before c =
+pub overflow_sub-path : goal.overflow_sub-path
+overflow_sub-path c =
     let p = c.args.path in
     omega (arith, one_shl 16 p.last (omega (arith, few_last c.args.self.now.few c.requires p.ends_there)), bit_le p.set.0 p.last p.ends_there)
 
@@ -18,5 +18,5 @@ pub returns-clause-kept : goal.returns-clause-kept
 returns-clause-kept c =
     let p = c.args.path in
     let last = few_last c.args.self.now.few c.requires p.ends_there in
-    rw (sym c.may_end.ensures ∙ c.if-may_end.false, one_shl 16 p.last (omega (arith, last)))
+    rw (c.from-before.ensures, sym c.may_end.ensures ∙ c.if-may_end.false, one_shl 16 p.last (omega (arith, last)))
     (kept_as c.args.dead.now p.set.0 p.last (omega (arith, c.args.self.now.few)) p.ends_there (omega (arith, last)) (search rules))

@@ -19,4 +19,6 @@ returns-then-is_altruist c =
 pub returns-else-is_altruist : goal.returns-else-is_altruist
 returns-else-is_altruist c =
     let f = c.args.self.now.filling.now in
-    member_closes (graph_of f.pool) (fits_formed f.pool (fits f)) f.limits.cycle f.limits.chain c.args.self.now.low (ltb-false _ _ (sym c.is_altruist.ensures ∙ c.if-is_altruist.false)) (known_givers f c.args.self.now.low c.args.self.now.in_pool)
+    let l = c.args.self.now.low in
+    rw c.from.ensures
+    (member_closes (graph_of f.pool) (fits_formed f.pool (fits f)) f.limits.cycle f.limits.chain l (ltb-false _ _ (sym c.is_altruist.ensures ∙ c.if-is_altruist.false)) (known_givers f l c.args.self.now.in_pool))
