@@ -1,5 +1,5 @@
 use borrow.Author.Tests.{ltb-true, ltb-false}
-use mathlib.Core.Path.{◌∙◌, ap, sym}
+use mathlib.Core.Path.{◌∙◌, ap}
 use Rattle.pool.specs.Value.{graph_of}
 use Rattle.kep.specs.Exchange.{walk}
 use Rattle.plans.proofs.CheckArcs.{tail_part, joined_chain, joined_cycle}
@@ -9,9 +9,9 @@ pub returns-then-is_altruist : goal.returns-then-is_altruist
 returns-then-is_altruist c =
     let xs = c.args.vertices.listed.now in
     c.walks.ensures
-    ∙ rw c.first-first.ensures.value (ap (walk _ _) (tail_part xs) ∙ joined_chain (graph_of c.args.self.now.pool) xs c.args.vertices.some (rw c.first-first.ensures.value at (ltb-true _ _ (sym c.is_altruist.ensures ∙ c.if-is_altruist.true))))
+    ∙ rw c.first-first.ensures.value (ap (walk _ _) (tail_part xs) ∙ joined_chain (graph_of c.args.self.now.pool) xs c.args.vertices.some (ltb-true _ _ (cc)))
 
 pub returns : goal.returns
 returns c =
     c.walks-2.ensures ∙ rw c.last.ensures (joined_cycle (graph_of c.args.self.now.pool) c.args.vertices.listed.now c.args.vertices.some
-    (rw c.first-first.ensures.value at (ltb-false _ _ (sym c.is_altruist.ensures ∙ c.if-is_altruist.false))))
+    (ltb-false _ _ (cc)))
