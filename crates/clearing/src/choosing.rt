@@ -21,7 +21,7 @@ impl Choice<'_> {
     {
         let mut free = VertexSet::below(self.pool.size);
         let mut records = 0;
-        while self.best[free.0 as usize] != 0 {
+        while self.best[usize::from(free.0)] != 0 {
             if let Some(taken) = self.take_exchange(free, dead) {
                 let at = PlanRecord::WIDTH * records;
                 plan[at..at + PlanRecord::WIDTH].copy_from_slice(&taken.bytes);

@@ -63,35 +63,35 @@ loop-free-init c =
     rw (c.below-free.ensures ∙ below_set 16 n n (omega (arith, small)) (λ u l. (λ h. h, λ h. h)))
     (record { made = made_start (graph_of s.pool) s.limits.cycle s.limits.chain (small_fits small) (worth_in s.pool) c.args.plan.now; clean = c.requires.clean })
 
-pub bounds-self-free : goal.bounds-self-free
-bounds-self-free c = omega (arith, c.loop-free.invariant.made.inside, best_long c.args.self.now.choosing.hold)
+pub bounds-self-from : goal.bounds-self-from
+bounds-self-from c = omega (arith, c.from.ensures, c.loop-free.invariant.made.inside, best_long c.args.self.now.choosing.hold)
 
 pub take_exchange-requires-clause-some : goal.take_exchange-requires-clause-some
-take_exchange-requires-clause-some c = nonempty c.args.self.now.choosing c.loop-free.invariant.made c.loop-free-test.true
+take_exchange-requires-clause-some c = nonempty c.args.self.now.choosing c.loop-free.invariant.made (rw c.from.ensures at c.loop-free-test.true)
 
 pub slice_bounds-copy_from_slice-end : goal.slice_bounds-copy_from_slice-end
-slice_bounds-copy_from_slice-end c = part_end (room c.args.self.now.choosing c.loop-free.invariant.made c.loop-free-test.true) c.requires.room c.loop-free.auto.plan
+slice_bounds-copy_from_slice-end c = part_end (room c.args.self.now.choosing c.loop-free.invariant.made (rw c.from.ensures at c.loop-free-test.true)) c.requires.room c.loop-free.auto.plan
 
 pub loop-free-smaller-in-Some : goal.loop-free-smaller-in-Some
 loop-free-smaller-in-Some c =
     let t = c.take_exchange.ensures in
-    (goes_on c.args.self.now.choosing c.loop-free.invariant.made c.loop-free-test.true t.stepped t.clean c.in-Some.is c.sub-free.ensures).0
+    (goes_on c.args.self.now.choosing c.loop-free.invariant.made (rw c.from.ensures at c.loop-free-test.true) t.stepped t.clean c.in-Some.is c.sub-free.ensures).0
 
 pub loop-free-preserved-in-Some : goal.loop-free-preserved-in-Some
 loop-free-preserved-in-Some c =
     let t = c.take_exchange.ensures in
-    let next = (goes_on c.args.self.now.choosing c.loop-free.invariant.made c.loop-free-test.true t.stepped t.clean c.in-Some.is c.sub-free.ensures).1 in
+    let next = (goes_on c.args.self.now.choosing c.loop-free.invariant.made (rw c.from.ensures at c.loop-free-test.true) t.stepped t.clean c.in-Some.is c.sub-free.ensures).1 in
     record { made = rw c.copy_from_slice.ensures.after next.0; clean = next.1 }
 
 pub loop-free-smaller : goal.loop-free-smaller
 loop-free-smaller c =
     let t = c.take_exchange.ensures in
-    (skips c.args.self.now.choosing c.loop-free.invariant.made c.loop-free-test.true t.stepped t.clean c.in_default.is c.lowest.ensures c.without-free.ensures).0
+    (skips c.args.self.now.choosing c.loop-free.invariant.made (rw c.from.ensures at c.loop-free-test.true) t.stepped t.clean c.in_default.is c.lowest.ensures c.without-free.ensures).0
 
 pub loop-free-preserved : goal.loop-free-preserved
 loop-free-preserved c =
     let t = c.take_exchange.ensures in
-    let next = (skips c.args.self.now.choosing c.loop-free.invariant.made c.loop-free-test.true t.stepped t.clean c.in_default.is c.lowest.ensures c.without-free.ensures).1 in
+    let next = (skips c.args.self.now.choosing c.loop-free.invariant.made (rw c.from.ensures at c.loop-free-test.true) t.stepped t.clean c.in_default.is c.lowest.ensures c.without-free.ensures).1 in
     record { made = next.0; clean = next.1 }
 
 pub returns : goal.returns
@@ -100,7 +100,7 @@ returns c =
     let g = graph_of s.pool in
     let fit = small_fits (fits_size s.pool s.choosing.fits) in
     let made = c.loop-free.invariant.made in
-    let end = sym (best_at s.choosing.hold c.loop-free.free.0 made.inside) ∙ c.loop-free-test.false in
+    let end = sym (best_at s.choosing.hold c.loop-free.free.0 made.inside) ∙ (rw c.from.ensures at c.loop-free-test.false) in
     record {
       records = made_count g s.limits.cycle s.limits.chain fit (worth_in s.pool) made end;
       written = made_plan g s.limits.cycle s.limits.chain fit (worth_in s.pool) made end;
