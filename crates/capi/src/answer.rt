@@ -6,6 +6,7 @@ ghost use Rattle.capi.specs.Answers.{accepted_with, refused_with};
 use pool::Refusal;
 
 // C has no Result: number is 0 where the input was accepted, and first and second are what the call gives back; else number is the refusal's, and at its spot.
+// No more is derived: only C looks at it.
 #[repr(C)]
 #[derive(Clone, Copy)]
 pub struct Answer {

@@ -8,6 +8,7 @@ use crate::answer::Answer;
 use pool::Limits;
 
 // Members served by plan bytes that are the record form of a legal plan.
+// C tells the limits by their two numbers.
 #[unsafe(no_mangle)]
 pub extern "C" fn swap_check(pool: &[u8], lc: u8, lp: u8, plan: &[u8]) -> Answer
     ensures { result ≡ count_answer (check_outcome pool.now (limits_of lc lp) plan.now) }

@@ -9,6 +9,7 @@ use crate::answer::Answer;
 use pool::Limits;
 
 // Members served and records written, of the best plan: most members, then most weeks, then the records that come first.
+// C tells the limits by their two numbers.
 #[unsafe(no_mangle)]
 pub extern "C" fn swap_clear(
     pool: &[u8],

@@ -10,6 +10,7 @@ use crate::answer::Answer;
 use pool::{Limits, Pool, Refusal};
 
 // Entries written: the exchange table of a pool value under limits.
+// C tells the limits by their two numbers.
 #[unsafe(no_mangle)]
 pub extern "C" fn swap_fill_exchanges(
     places: u8,

@@ -8,6 +8,7 @@ use crate::answer::Answer;
 use pool::Pool;
 
 // Places and houses; gives holds the pool value's sets and weeks its weeks, and both are untouched on a refusal.
+// C has no pool value: it gets the parts, the two arrays in memory of its own.
 #[unsafe(no_mangle)]
 pub extern "C" fn swap_read_pool(
     bytes: &[u8],

@@ -9,7 +9,7 @@ pub(crate) struct Choice<'a> {
     pub limits: Limits,
     // For each vertex the set of those that give to it.
     pub givers: [u16; 14],
-    // The exchange table and the best table.
+    // The exchange table and the best table, by the same sets, as C lends them.
     pub exchanges: &'a [u16],
     pub best: &'a [u32],
     ghost choosing: { Choosing pool limits givers exchanges.now best.now },

@@ -21,6 +21,7 @@ impl Choice<'_> {
     {
         let mut free = VertexSet::below(self.pool.size);
         let mut records = 0;
+        // No range or chain: the table tells when to stop, and a turn may write no record.
         while self.best[usize::from(free.0)] != 0 {
             if let Some(taken) = self.take_exchange(free, dead) {
                 let at = PlanRecord::WIDTH * records;
@@ -36,6 +37,7 @@ impl Choice<'_> {
 }
 
 // Writes the records of the plan at the front of the plan buffer, and tells how many there are.
+// The number goes beside the buffer, since C lends the buffer: no Vec.
 pub(crate) fn write_plan(
     pool: Pool,
     limits: Limits,

@@ -20,6 +20,7 @@ pub struct Cleared {
 }
 
 // Clears the pool that the bytes hold, or refuses (the causes of reading, and 7 to 10) and leaves all that is lent as it was.
+// Tables and buffer come one by one, here and below, as C lends them. What `clear` and `clear_value` share is the latter: only the promise is told twice.
 pub fn clear(
     pool: &[u8],
     limits: Limits,
@@ -74,7 +75,7 @@ fn clear_accepted(
     }
 }
 
-// Causes 6 to 10, by the lengths of what is lent.
+// Causes 6 to 10, by the lengths of what is lent alone: no entry is read.
 fn test_lent(
     pool: Pool,
     limits: Limits,

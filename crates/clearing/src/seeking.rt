@@ -8,6 +8,7 @@ use pool::Pool;
 use sets::VertexSet;
 
 // A path from the lowest free vertex on: the set of its vertices, and its last vertex.
+// That its vertices are free is told where it meets a step: as a ghost field it would bind each path to its step.
 #[derive(Clone, Copy)]
 pub(crate) struct Path {
     pub set: VertexSet,
@@ -16,11 +17,12 @@ pub(crate) struct Path {
 }
 
 // What all paths of a step go by.
+// What failed is lent beside it, as the tables beside a `Filling` (exchanges); it is an array by sets and no map, since memory is fixed.
 #[derive(Drop)]
 pub(crate) struct Step<'a> {
     // For each vertex the set of those that it gives to.
     pub gives: &'a [u16; 14],
-    // The exchange table and the best table.
+    // The exchange table and the best table: a set's number is the place of its entry, as C lends them.
     pub exchanges: &'a [u16],
     pub best: &'a [u32],
     // The vertices that no exchange has taken.

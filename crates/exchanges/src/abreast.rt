@@ -44,6 +44,7 @@ impl Eights<'_> {
             return [0, 1, 2, 0, 4, 0, 0, 0];
         }
         let mut eight = [0u16; 8];
+        // By the lowest bit: a turn needs the bit itself at full width, its vertex and the set without it; an iterator of vertices would leave all that to do.
         let mut left = base;
         while left != 0 {
             let next = (left - 1) & left;
@@ -88,6 +89,7 @@ fn add_open(from: usize, givers: u16, bit: u16, table: &[u16], eight: &mut [u16;
     requires { from + 8 ≤ length table.now }
     ensures { Changed (λ i. i ≡ i) 8 (opened table.now from givers bit eight.old) eight.old eight.new }
 {
+    // By number: of a `zip` of `iter_mut` a proof knows no more than how many there are.
     for j in 0..8 {
         eight[j] |= bit_where(table[from + j] & givers, bit);
     }

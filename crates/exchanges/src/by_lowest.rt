@@ -58,6 +58,7 @@ impl Filling {
 
 impl Eights<'_> {
     // Where most sets are allowed: pass one for all sets, eight abreast, and then pass two for each vertex.
+    // Not one loop with `fill_allowed_sets`: it would take a flag for the step to make.
     fn fill_from_all_paths(&self, table: &mut [u16])
         requires room { 2 ^ self.now.filling.now.pool.size ≤ length table.old }
         ensures { let f = self.now.filling.now in table.new ≡ written_to (entry_of f.pool f.limits) (2 ^ f.pool.size) table.old }
@@ -144,6 +145,7 @@ impl SetsFrom<'_> {
             return;
         }
         let end = self.filling.sets();
+        // No range: how far it is to the next set depends on the set.
         let mut set = 3 * first;
         while set < end {
             table[set] = self.filling.path_ends(set, first, table);
@@ -165,6 +167,7 @@ impl SetsFrom<'_> {
 }
 
 // The table with no entry.
+// The number of sets goes beside it: a lent table may be longer, and its rest stays.
 fn clear_table(sets: usize, table: &mut [u16])
     requires { sets ≤ length table.old }
     ensures { Changed (λ i. i ≡ i) sets (λ _. 0) table.old table.new }

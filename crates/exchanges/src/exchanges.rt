@@ -9,6 +9,7 @@ use pool::{Cause, Limits, Pool, Refusal};
 
 // Fills the entries of all sets of the pool's places, and tells their number. Refuses by 6, 7 and 8, in that order, and then leaves the
 // table as it was.
+// Pool and limits stay side by side in public calls: each is tested by itself, and the best table takes no limits.
 pub fn fill_exchanges(pool: Pool, limits: Limits, table: &mut [u16]) -> Result<usize, Refusal>
     ensures outcome { outcome result ≡ exchanges_outcome pool limits table.old }
     ensures left { table.new ≡ exchanges_left pool limits table.old }
@@ -19,7 +20,7 @@ pub fn fill_exchanges(pool: Pool, limits: Limits, table: &mut [u16]) -> Result<u
     Ok(filling.sets())
 }
 
-// Causes 6, 7 and 8, by the length of the table.
+// Causes 6, 7 and 8, by the length of the table alone: no entry is read, so none has to be lent.
 pub fn test_exchanges(pool: Pool, limits: Limits, table: usize) -> Result<(), Refusal>
     ensures { outcome_of result pool ≡ tested (exchanges_tests pool limits table) 0 (accepted pool) }
 {

@@ -1,4 +1,5 @@
 // Layer two of document 01: set tables. The exchange table marks the sets that a cycle or chain uses.
+// Sets and ends stay numbers here: that of a set is the place of its entry, and its ends are the entry, as C lends the table.
 #![tactic(auto)]
 
 mod abreast;

@@ -26,6 +26,7 @@ impl Filling {
         requires smaller_known { Known (graph_of self.now.pool) set (set - first) table.now }
         ensures { result ≡ ends_of (graph_of self.now.pool) set }
     {
+        // By the lowest bit, as in `common_ends`.
         let mut left = set - first;
         let mut ends: usize = 0;
         while left != 0 {
@@ -34,6 +35,7 @@ impl Filling {
             let before = set - bit;
             let v = left.trailing_zeros() as usize;
             let met = table[before] & self.givers[v];
+            // Not `bit_where`: that is of 16 bits, and the bit is at full width here.
             ends |= if met == 0 { 0 } else { bit };
             left = next;
         }

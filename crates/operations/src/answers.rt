@@ -10,6 +10,7 @@ use std::io::Read;
 // How many places the largest pool has.
 const PLACES: usize = 14;
 
+// The tests ask for a set's number; `Debug` would print the type's name with it.
 pub(crate) fn try_set(rt: &impl Print, set: VertexSet, v: u8) -> io::Result<()> {
     let (with, without) = (set.with(v).0, set.without(v).0);
     let has = u8::from(set.has(v));
@@ -27,6 +28,7 @@ pub(crate) fn try_limits(rt: &impl Print, cycle: u8, chain: u8) -> io::Result<()
     }
 }
 
+// The command's form (src/main): 256 bytes, of which the first `length` are the plan.
 pub(crate) fn try_record(
     rt: &impl Print,
     input: &mut impl Read,
@@ -42,6 +44,7 @@ pub(crate) fn try_record(
 }
 
 // Clears a pool value that stands on standard input.
+// No heap: the arrays stand in this frame, as in `report`.
 pub(crate) fn clear_next(rt: &impl Print, input: &mut impl Read, limits: Limits) -> io::Result<()> {
     let mut exchanges = [0u16; Pool::SETS];
     let mut best = [0u32; Pool::SETS];

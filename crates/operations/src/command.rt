@@ -24,6 +24,7 @@ impl TryFrom<[u8; 16]> for Command {
         let number = u16::from_le_bytes([second, third]);
         match letter {
             b'S' => Ok(Command::Set {
+                // The two bytes are the set's number.
                 set: VertexSet(number),
                 vertex: first,
             }),

@@ -5,6 +5,7 @@ ghost use Rattle.plans.specs.Record.{record_part, record_place};
 use reading::PoolRecord;
 
 // Where code needs a record's width, where a byte of its own stands or what stands behind its vertices, it goes by these names.
+// As `PoolRecord` in reading: no function takes either, so a trait for them would have no use.
 #[derive(Clone, Copy)]
 pub struct PlanRecord {}
 
@@ -15,6 +16,7 @@ impl PlanRecord {
 
     pub const SERVED: usize = 15;
 
+    // A byte of 01's form; `Vertices` holds what stands before it.
     pub const FILLER: u8 = 255;
 
     // How many bytes the largest plan has: a record for each place of a pool.

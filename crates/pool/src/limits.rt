@@ -24,6 +24,7 @@ impl Limits {
     }
 
     // Cause 7: the fields are public, so every call that is lent limits tests them.
+    // `Pool::test` is the same by cause 6: a trait for both, with its law, would be longer than they are.
     pub fn test(self) -> Result<(), Refusal>
         ensures { outcome_of result self ≡ test_limits self }
     {
@@ -34,6 +35,7 @@ impl Limits {
     }
 
     // How many vertices an exchange may have. Lp counts the members of a chain, and not its altruist.
+    // By a flag, as `is_altruist` tells it, and not by the kind: the kinds of exchanges are those of plan records, in a crate above.
     pub fn most_vertices(self, of_chain: bool) -> usize
         ensures most { result ≡ most_vertices self of_chain }
         ensures small { result ≤ 256 }

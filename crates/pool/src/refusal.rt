@@ -56,7 +56,7 @@ impl Cause {
     }
 }
 
-// The cause met and its spot: the record, or 0.
+// The cause met and its spot: the record, and as 01 asks 0 and no `None` where there is none.
 #[derive(Clone, Copy, Debug, PartialEq, Eq)]
 pub struct Refusal {
     pub cause: Cause,

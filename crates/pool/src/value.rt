@@ -8,13 +8,14 @@ ghost use Rattle.pool.specs.Value.{graph_of, test_pool, pool_fits, takers_fit, a
 use crate::refusal::{Cause, Refusal};
 use sets::VertexSet;
 
+// Two arrays, as C lends them; and since the fields are public, a value may hold anything: crates above have types of one that passes its test.
 #[derive(Clone, Copy, Debug, PartialEq, Eq)]
 pub struct Pool {
     // The places: vertices 0 to size - 1.
     pub size: u8,
     // The houses: vertices 0 to altruists - 1.
     pub altruists: u8,
-    // For each place the set of the places that it gives to.
+    // For each place the set of the places that it gives to, as the number that C hands over.
     pub gives: [u16; 14],
     // For each place the weeks that it has waited; a house's count nowhere.
     pub weeks: [u16; 14],
@@ -64,6 +65,7 @@ impl Pool {
     }
 
     // The same of a place for which there is room, for loops over many arcs.
+    // Here and below vertices are plain numbers, as in all calls: so who looks one up in an array asks that it is below 14.
     pub(crate) fn gives_to(&self, u: u8, v: u8) -> bool
         requires { u < 14 }
         ensures { result ≡ (graph_of self.now).arc u v }

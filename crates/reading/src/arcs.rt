@@ -25,6 +25,7 @@ fn is_member(bytes: &Record) -> bool
 }
 
 // Is the class among those taken? None above 31 is.
+// By a bit: a `VertexSet` has room for 16, and one test needs no type of its own.
 fn takes(bytes: &Record, class: u8) -> bool
     ensures { result ≡ has (taken_of bytes.now) class }
 {

@@ -3,6 +3,7 @@ ghost use Rattle.std.specs.Prelude.{◌≡◌, ◌<◌};
 ghost use Rattle.reading.specs.Fields.{pair_at, taken_of, weeks_of, machine_of};
 
 // Where code needs a record's width, the most records of a pool or the first byte of a field, it goes by these names.
+// No value of it is made, so no more is derived.
 #[derive(Clone, Copy)]
 pub struct PoolRecord {}
 
@@ -37,7 +38,7 @@ pub(crate) fn taken(bytes: &Record) -> u32
     u32::from_le_bytes([bytes[at], bytes[at + 1], bytes[at + 2], bytes[at + 3]])
 }
 
-// The weeks waited.
+// The weeks waited. As `machine`, it is one call of `pair`, named for the contracts.
 pub(crate) fn weeks(bytes: &Record) -> u16
     ensures { result ≡ weeks_of bytes.now }
 {

@@ -11,6 +11,7 @@ pub(crate) enum Kind {
     Member,
 }
 
+// As for `ExchangeKind` in plans, with other bytes: an impl by a macro of our own is refused.
 impl TryFrom<u8> for Kind {
     type Error = Cause;
 

@@ -27,6 +27,7 @@ impl Places<'_> {
         ensures { outcome result ≡ records_tested [] self.now.records.now (accepted (length (keep tells_house self.now.records.now))) }
     {
         let mut houses = 0;
+        // A flag by itself: 5 asks no more of the records before, and no value goes with it.
         let mut houses_only = true;
         for (at, record) in self.records.iter().enumerate() {
             let kind = read_record(record, houses_only).map_err(|cause| Refusal { cause, at })?;

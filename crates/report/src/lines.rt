@@ -26,6 +26,7 @@ impl Text {
     }
 
     // `refused N P`.
+    // As the first line of `push_plan`, by `push_numbers`. The spot is asked for, since a refusal's fields are public.
     pub(crate) fn push_refused(&mut self, refusal: Refusal)
         requires { refusal.at < 1000 }
         ensures text { self.new ≡ pushed self.old (refused_line (number_of refusal.cause) refusal.at) }

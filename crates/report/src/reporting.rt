@@ -15,6 +15,7 @@ use reading::{PoolRecord, read_pool};
 pub const COUNTED: usize = PoolRecord::WIDTH * (PoolRecord::MOST + 2);
 
 // Writes the whole text to the front of the buffer and tells its length, if there is room for all of it; `ROOM` bytes always are enough.
+// The caller lends the memory, as to all calls here: so the length is told, and no String made.
 pub fn report(pool: &[u8], limits: &[u8], out: &mut [u8]) -> Option<usize>
     ensures length { result ≡ text_outcome pool.now limits.now (length out.old) }
     ensures text { out.new ≡ text_left pool.now limits.now out.old }
@@ -32,6 +33,7 @@ pub fn report(pool: &[u8], limits: &[u8], out: &mut [u8]) -> Option<usize>
 }
 
 // The text: the plan's, or one line that tells the refusal.
+// The bytes of the two files stand side by side, here and below, as `report` is lent them.
 fn compose(pool: &[u8], limits: &[u8]) -> Text
     ensures { result ≡ whole_text pool.now limits.now }
 {
@@ -59,6 +61,7 @@ fn compose_plan(pool: &[u8], limits: &[u8]) -> Result<Text, Refusal>
 }
 
 // The text of a pool that was read, under limits of two bytes.
+// No heap: the arrays stand in this frame. `operations` has the same three, and neither rests on the other.
 fn compose_cleared(pool: Pool, limits: Limits) -> Result<Text, Refusal>
     requires { T (pool_fits pool) }
     ensures text { IfOk result (λ text. text ≡ cleared_text pool limits) }

@@ -24,6 +24,7 @@ pub(crate) fn load<'a>(rt: &impl Files, path: &str, buffer: &'a mut [u8]) -> io:
     Ok(&buffer[..length])
 }
 
+// System and path side by side, here and above, as in std's own `fs::open`.
 fn open<R: Files>(rt: &R, path: &str) -> io::Result<R::File> {
     reach(rt, path)?;
     fs::open(rt, path)
@@ -59,6 +60,8 @@ fn read_whole<R: Read>(file: &mut R, buffer: &mut [u8]) -> io::Result<usize>
     ensures whole { IfOk result (λ n. n < length buffer.new → IsAtEnd (R.remaining file.new)) }
     ensures part { OnErr result (ConsumesFront (R.remaining file.old) (R.remaining file.new) buffer.new) }
 {
+    // By hand: std's `read_exact` fails where the file ends early, and `read_to_end` asks for a heap.
+    // Not one loop with `write_whole`: nothing read is the end, nothing written a failure.
     let mut done = 0;
     while done < buffer.len() {
         match read(file, &mut buffer[done..])? {
@@ -80,6 +83,7 @@ fn read<R: Read>(file: &mut R, buffer: &mut [u8]) -> io::Result<usize>
 pub(crate) fn write_whole<W: Write>(to: &mut W, text: &[u8]) -> io::Result<()>
     ensures { OnOk result (Appends (W.contents to.old) (W.contents to.new) text.now) }
 {
+    // By hand: std's `write_all` tries an interrupted call again nearly without end.
     let mut done = 0;
     while done < text.len() {
         let more = write(to, &text[done..])?;

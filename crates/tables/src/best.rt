@@ -60,6 +60,7 @@ impl VertexWorths {
 }
 
 // What each set offers: its worth where it is marked, else 0. Every try looks one up, so they are worked out once.
+// The number of entries goes beside the tables, here and below: lent ones may be longer, and their rest stays.
 #[tactic(auto, unfolding(kep::specs::Lists::tabulate))]
 fn fill_offers(entries: usize, exchanges: &[u16], worths: &[u32], offers: &mut [u32])
     requires exchanges_long { entries ≤ length exchanges.now }
@@ -67,6 +68,7 @@ fn fill_offers(entries: usize, exchanges: &[u16], worths: &[u32], offers: &mut [
     requires offers_long { entries ≤ length offers.old }
     ensures { offers.new ≡ written_to (offer (λ t. get_or worths.now t 0) (marked exchanges.now)) entries offers.old }
 {
+    // By number: of a `zip` of `iter_mut` a proof knows no more than how many there are.
     for t in 0..entries {
         offers[t] = if exchanges[t] == 0 { 0 } else { worths[t] };
     }
@@ -93,6 +95,7 @@ fn best_entry(s: usize, offers: &[u32], table: &[u32]) -> u64
     ensures { result ≡ next_best offers.now table.now s }
 {
     let mut found: u64 = 0;
+    // No range has these steps, and `successors` would hold the same step in a closure.
     let mut t = s;
     while t != 0 {
         let rest = s - t;

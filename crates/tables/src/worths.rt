@@ -12,6 +12,7 @@ use pool::Pool;
 pub const MEMBER: u32 = 65536;
 
 // The worth of every vertex, so little that the worth of a set fits 32 bits.
+// The tables are lent beside it: as fields, every contract would have to say that the others stay, in place of that there is room.
 #[derive(Drop)]
 pub(crate) struct VertexWorths {
     pub size: u8,
