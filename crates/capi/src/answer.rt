@@ -6,9 +6,8 @@ ghost use Rattle.capi.specs.Answers.{accepted_with, refused_with};
 use pool::Refusal;
 
 // C has no Result: number is 0 where the input was accepted, and first and second are what the call gives back; else number is the refusal's, and at its spot.
-// No more is derived: only C looks at it.
 #[repr(C)]
-#[derive(Clone, Copy)]
+#[derive(Clone, Copy, Debug, PartialEq, Eq)]
 pub struct Answer {
     pub number: u64,
     pub at: u64,

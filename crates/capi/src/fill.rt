@@ -10,7 +10,7 @@ use crate::answer::Answer;
 use pool::{Limits, Pool, Refusal};
 
 // Entries written: the exchange table of a pool value under limits.
-// C tells the limits by their two numbers.
+// C tells the limits by their two numbers, and here and below a pool value by its parts.
 #[unsafe(no_mangle)]
 pub extern "C" fn swap_fill_exchanges(
     places: u8,

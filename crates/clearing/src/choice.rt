@@ -7,7 +7,7 @@ use pool::{Limits, Pool};
 pub(crate) struct Choice<'a> {
     pub pool: Pool,
     pub limits: Limits,
-    // For each vertex the set of those that give to it.
+    // For each vertex the set of those that give to it, as the number that `all_givers` tells.
     pub givers: [u16; 14],
     // The exchange table and the best table, by the same sets, as C lends them.
     pub exchanges: &'a [u16],

@@ -12,7 +12,7 @@ use pool::{Cause, Limits, Pool, Refusal};
 use reading::read_pool;
 use tables::{MEMBER, fill_best};
 
-// The plan in short: the members served, and the number of records written.
+// The plan in short: the members served, and the number of records written, since C lends the plan buffer.
 #[derive(Clone, Copy, Debug, PartialEq, Eq)]
 pub struct Cleared {
     pub served: u8,

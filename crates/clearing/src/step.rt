@@ -28,7 +28,7 @@ impl Choice<'_> {
     }
 
     // The vertices at which an exchange from v on may end: any in a chain, in a cycle those that give to v.
-    // Not the closing set of exchanges, which leaves the altruist out: every path has it already. All that a set has room for is one number.
+    // Not the closing set of exchanges, which leaves the altruist out: every path has it already. `below(16)` would have a number for all that a set has room for, too.
     fn goal_from(&self, v: u8) -> VertexSet
         requires { v < 14 }
         ensures { result.0 ≡ goal_by (ltb v self.now.pool.altruists) (get_or self.now.givers v 0) }

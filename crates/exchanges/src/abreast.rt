@@ -85,6 +85,7 @@ impl Eights<'_> {
 }
 
 // Adds a bit to each of the eight sets whose entry, from `from` on, meets the givers.
+// Room for eight is asked for here, above and below: the table is lent beside the numbers, as beside a `Filling`.
 fn add_open(from: usize, givers: u16, bit: u16, table: &[u16], eight: &mut [u16; 8])
     requires { from + 8 ≤ length table.now }
     ensures { Changed (λ i. i ≡ i) 8 (opened table.now from givers bit eight.old) eight.old eight.new }

@@ -58,7 +58,7 @@ impl Filling {
 
 impl Eights<'_> {
     // Where most sets are allowed: pass one for all sets, eight abreast, and then pass two for each vertex.
-    // Not one loop with `fill_allowed_sets`: it would take a flag for the step to make.
+    // Not one loop with `fill_allowed_sets`: it would take the step as a closure, and have to say of it what the table holds before.
     fn fill_from_all_paths(&self, table: &mut [u16])
         requires room { 2 ^ self.now.filling.now.pool.size ≤ length table.old }
         ensures { let f = self.now.filling.now in table.new ≡ written_to (entry_of f.pool f.limits) (2 ^ f.pool.size) table.old }
@@ -71,7 +71,7 @@ impl Eights<'_> {
     }
 }
 
-// The sets that begin at one vertex of a pool.
+// The sets that begin at one vertex of a pool, as numbers: that of a set is the place of its entry.
 #[derive(Clone, Copy)]
 struct SetsFrom<'a> {
     filling: &'a Filling,
@@ -145,7 +145,7 @@ impl SetsFrom<'_> {
             return;
         }
         let end = self.filling.sets();
-        // No range: how far it is to the next set depends on the set.
+        // No range: how far it is to the next set depends on the set; `successors` with `take_while` would hold step and test in two closures.
         let mut set = 3 * first;
         while set < end {
             table[set] = self.filling.path_ends(set, first, table);
@@ -175,7 +175,7 @@ fn clear_table(sets: usize, table: &mut [u16])
     table[..sets].fill(0);
 }
 
-// The next set of at most `most` vertices that begins where `set` does. Those that begin there are `first` and more by multiples of
+// Sets as numbers, the places of their entries. The next set of at most `most` vertices that begins where `set` does. Those that begin there are `first` and more by multiples of
 // its double; after one of `most` vertices every set up to that with the lowest bit of its others added has more, and is passed over.
 fn next_allowed(set: usize, first: usize, most: usize) -> usize
     requires several { first < set }

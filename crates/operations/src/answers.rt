@@ -7,7 +7,7 @@ use sets::VertexSet;
 use std::io;
 use std::io::Read;
 
-// How many places the largest pool has.
+// How many places the largest pool has: `PoolRecord::MOST` of reading, on which this program does not rest.
 const PLACES: usize = 14;
 
 // The tests ask for a set's number; `Debug` would print the type's name with it.
@@ -44,7 +44,7 @@ pub(crate) fn try_record(
 }
 
 // Clears a pool value that stands on standard input.
-// No heap: the arrays stand in this frame, as in `report`.
+// No heap: the arrays stand in this frame, as in `report`; a struct that makes them would hand 98,528 bytes back by value.
 pub(crate) fn clear_next(rt: &impl Print, input: &mut impl Read, limits: Limits) -> io::Result<()> {
     let mut exchanges = [0u16; Pool::SETS];
     let mut best = [0u32; Pool::SETS];

@@ -41,7 +41,7 @@ fn next_command(input: &mut impl Read) -> io::Result<Option<Command>> {
     Ok(Command::try_from(bytes).ok())
 }
 
-// Output and input side by side: two operations need no input, and what reads needs no output.
+// Output and input side by side, here and in `answers`: two operations need no input, and `read_full` needs no output.
 fn run(rt: &impl Print, input: &mut impl Read, command: Command) -> io::Result<()> {
     match command {
         Command::Set { set, vertex } => try_set(rt, set, vertex),

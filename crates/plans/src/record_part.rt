@@ -5,7 +5,7 @@ ghost use Rattle.plans.specs.Record.{record_part, record_place};
 use reading::PoolRecord;
 
 // Where code needs a record's width, where a byte of its own stands or what stands behind its vertices, it goes by these names.
-// As `PoolRecord` in reading: no function takes either, so a trait for them would have no use.
+// As `PoolRecord` in reading: no value of either is made, so a trait for them would have no use, and no more is derived.
 #[derive(Clone, Copy)]
 pub struct PlanRecord {}
 
@@ -24,6 +24,7 @@ impl PlanRecord {
 }
 
 // The sixteen bytes of record k, where k + 1 whole records stand there; else, as 01 asks, an empty part and no `None`: at the start of the plan.
+// By hand and not by `as_chunks`: where the part stands is promised too, also that of the empty one.
 pub fn record(plan: &[u8], k: usize) -> &[u8]
     ensures contents { result.now ≡ record_part plan.now k }
     ensures place { result.ref_ptr ≡ record_place plan.entry.ref_ptr plan.now k }

@@ -7,7 +7,7 @@ ghost use Rattle.pool.specs.Value.{graph_of};
 use crate::value::Pool;
 use sets::VertexSet;
 
-// The givers of every vertex, worked out once.
+// The givers of every vertex, worked out once; as numbers, since exchanges meets them with entries of its table.
 pub fn all_givers(pool: Pool) -> [u16; 14]
     ensures { result ≡ tabulate (giver_set (graph_of pool)) 14 }
 {

@@ -12,8 +12,9 @@ use crate::kind::Kind;
 pub(crate) fn gives(giver: &Record, taker: &Record) -> bool
     ensures { result ≡ record_gives giver.now taker.now }
 {
-    is_member(taker)
-        && takes(taker, giver[PoolRecord::CLASS])
+    // The class first: so that of a giver is looked up once for all takers.
+    takes(taker, giver[PoolRecord::CLASS])
+        && is_member(taker)
         && taker[PoolRecord::LEAST] <= giver[PoolRecord::GRADE]
 }
 

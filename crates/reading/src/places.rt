@@ -30,6 +30,7 @@ impl Places<'_> {
         // A flag by itself: 5 asks no more of the records before, and no value goes with it.
         let mut houses_only = true;
         for (at, record) in self.records.iter().enumerate() {
+            // As in plans' `check_records`: one expression, for which a method of `Cause` would be a name.
             let kind = read_record(record, houses_only).map_err(|cause| Refusal { cause, at })?;
             match kind {
                 Kind::House => houses += 1,
@@ -39,14 +40,14 @@ impl Places<'_> {
         Ok(houses)
     }
 
-    // For each the set of the places that it gives to; nothing from places that are not there.
+    // For each the set of the places that it gives to, as `Pool` holds it; nothing from places that are not there.
     pub(crate) fn takers(&self) -> [u16; PoolRecord::MOST]
         ensures { result ≡ for_places (takers_of self.now.records.now) (length self.now.records.now) }
     {
         std::array::from_fn(|u| self.takers_at(u))
     }
 
-    // The set of the places that place u gives to; nothing from one that is not there.
+    // The set of the places that place u gives to; nothing from one that is not there. By a match and no `map_or`: each case is found by itself.
     fn takers_at(&self, u: usize) -> u16
         ensures { result ≡ counted (ltb u (length self.now.records.now)) (takers_of self.now.records.now u) }
     {

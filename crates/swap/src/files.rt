@@ -24,7 +24,7 @@ pub(crate) fn load<'a>(rt: &impl Files, path: &str, buffer: &'a mut [u8]) -> io:
     Ok(&buffer[..length])
 }
 
-// System and path side by side, here and above, as in std's own `fs::open`.
+// System and path side by side, in `load`, here and in `reach`, as in std's own `fs::open`.
 fn open<R: Files>(rt: &R, path: &str) -> io::Result<R::File> {
     reach(rt, path)?;
     fs::open(rt, path)
@@ -60,7 +60,7 @@ fn read_whole<R: Read>(file: &mut R, buffer: &mut [u8]) -> io::Result<usize>
     ensures whole { IfOk result (λ n. n < length buffer.new → IsAtEnd (R.remaining file.new)) }
     ensures part { OnErr result (ConsumesFront (R.remaining file.old) (R.remaining file.new) buffer.new) }
 {
-    // By hand: std's `read_exact` fails where the file ends early, and `read_to_end` asks for a heap.
+    // By hand: std's `read_exact` fails where the file ends early, `read_to_end` asks for a Vec, and `io::copy` tries an interrupted call again nearly without end.
     // Not one loop with `write_whole`: nothing read is the end, nothing written a failure.
     let mut done = 0;
     while done < buffer.len() {
@@ -72,6 +72,7 @@ fn read_whole<R: Read>(file: &mut R, buffer: &mut [u8]) -> io::Result<usize>
     Ok(done)
 }
 
+// How many bytes were read, as std's own `read` tells it; `load` makes a part of the buffer of it.
 fn read<R: Read>(file: &mut R, buffer: &mut [u8]) -> io::Result<usize>
     ensures bound { ReadsAtMost result buffer.new }
     ensures bytes { ReadConsumes (R.remaining file.old) (R.remaining file.new) result buffer.new }

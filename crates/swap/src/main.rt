@@ -17,12 +17,15 @@ use std::rt::Files;
 const UNREAD: u8 = 141;
 
 fn main(rt: HostRuntime) -> ExitCode {
-    match run(&rt) {
-        Ok(()) => ExitCode::SUCCESS,
-        Err(Failure::Output(error)) if error.kind() == ErrorKind::BrokenPipe => {
-            ExitCode::from(UNREAD)
-        }
-        Err(failure) => tell(&rt, failure),
+    let ended = match run(&rt) {
+        Err(Failure::Output(error)) if error.kind() == ErrorKind::BrokenPipe => Err(error),
+        // One line to standard error.
+        Err(failure) => eprintln!(rt; "swap: {failure}"),
+        Ok(()) => Ok(()),
+    };
+    match ended {
+        Err(error) if error.kind() == ErrorKind::BrokenPipe => ExitCode::from(UNREAD),
+        _ => ExitCode::SUCCESS,
     }
 }
 
@@ -35,18 +38,11 @@ fn run(rt: &(impl Files + Print)) -> Result<(), Failure> {
     print(rt, pool, limits).map_err(Failure::Output)
 }
 
+// The text's length is told beside its buffer, as `report` tells it: memory is fixed, so no String.
 fn print(rt: &impl Print, pool: &[u8], limits: &[u8]) -> io::Result<()> {
     let mut text = [0u8; ROOM];
     match report(pool, limits, &mut text) {
         Some(length) => write_whole(&mut io::writer(rt), &text[..length]),
         None => Ok(()),
-    }
-}
-
-// One line to standard error.
-fn tell(rt: &impl Eprint, failure: Failure) -> ExitCode {
-    match eprintln!(rt; "swap: {failure}") {
-        Err(error) if error.kind() == ErrorKind::BrokenPipe => ExitCode::from(UNREAD),
-        _ => ExitCode::SUCCESS,
     }
 }

@@ -87,7 +87,7 @@ fn fill_entries(entries: usize, offers: &[u32], table: &mut [u32])
     }
 }
 
-// Entry s, from what each set offers and the entries before it: every nonempty part t of s is tried, from s itself down. No branch
+// Sets are numbers, the places of their entries. Entry s, from what each set offers and the entries before it: every nonempty part t of s is tried, from s itself down. No branch
 // asks whether t is marked: an unmarked part only brings the entry of what is left, which is never above that of s.
 fn best_entry(s: usize, offers: &[u32], table: &[u32]) -> u64
     requires offers_long { s < length offers.now }

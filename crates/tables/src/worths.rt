@@ -12,7 +12,7 @@ use pool::Pool;
 pub const MEMBER: u32 = 65536;
 
 // The worth of every vertex, so little that the worth of a set fits 32 bits.
-// The tables are lent beside it: as fields, every contract would have to say that the others stay, in place of that there is room.
+// Fixed memory: an array for as many vertices as a pool has at most. The tables are lent beside it: as fields, every contract would have to say that the others stay, in place of that there is room.
 #[derive(Drop)]
 pub(crate) struct VertexWorths {
     pub size: u8,
@@ -40,7 +40,7 @@ impl VertexWorths {
         1usize << self.size
     }
 
-    // The worth of every set, by that of the set without its lowest vertex.
+    // The worth of every set, by that of the set without its lowest vertex; sets are numbers, the places of their entries.
     pub(crate) fn fill_worths(&self, table: &mut [u32])
         requires { 2 ^ self.now.size ≤ length table.old }
         ensures { table.new ≡ written_to (worth_by self.now.each self.now.size) (2 ^ self.now.size) table.old }
