@@ -2,3 +2,4 @@
 pub mod Abreast
 pub mod ByLowest
 pub mod Changed
+pub mod Vertices

@@ -10,6 +10,7 @@ ghost use Rattle.exchanges.specs.inner.Abreast.{Lanes, opened};
 
 use crate::filling::Filling;
 use crate::path_ends::bit_where;
+use crate::vertices::Vertices;
 
 // What a filling goes by, of a pool that has all three: its sets stand in eights.
 #[derive(Clone, Copy)]
@@ -44,15 +45,9 @@ impl Eights<'_> {
             return [0, 1, 2, 0, 4, 0, 0, 0];
         }
         let mut eight = [0u16; 8];
-        // By the lowest bit: a turn needs the bit itself at full width, its vertex and the set without it; an iterator of vertices would leave all that to do.
-        let mut left = base;
-        while left != 0 {
-            let next = (left - 1) & left;
-            let bit = left - next;
+        for (bit, v) in Vertices(base) {
             let from = base - bit;
-            let v = left.trailing_zeros() as usize;
             add_open(from, self.filling.givers[v], bit as u16, table, &mut eight);
-            left = next;
         }
         // The first set begins at a vertex that all have: no end of it, unless it is alone.
         let rest = (base - 1) & base;

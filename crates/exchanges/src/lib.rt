@@ -7,5 +7,6 @@ mod by_lowest;
 mod exchanges;
 mod filling;
 mod path_ends;
+mod vertices;
 
 pub use exchanges::{fill_exchanges, test_exchanges};

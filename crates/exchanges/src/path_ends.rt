@@ -7,6 +7,7 @@ ghost use Rattle.exchanges.specs.inner.ByLowest.{Known};
 ghost use Rattle.exchanges.specs.inner.Abreast.{bit_where};
 
 use crate::filling::Filling;
+use crate::vertices::Vertices;
 
 // The bit, if two sets met.
 pub(crate) fn bit_where(met: u16, bit: u16) -> u16
@@ -26,18 +27,12 @@ impl Filling {
         requires smaller_known { Known (graph_of self.now.pool) set (set - first) table.now }
         ensures { result ≡ ends_of (graph_of self.now.pool) set }
     {
-        // By the lowest bit, as in `common_ends`.
-        let mut left = set - first;
         let mut ends: usize = 0;
-        while left != 0 {
-            let next = (left - 1) & left;
-            let bit = left - next;
+        for (bit, v) in Vertices(set - first) {
             let before = set - bit;
-            let v = left.trailing_zeros() as usize;
             let met = table[before] & self.givers[v];
             // Not `bit_where`: that is of 16 bits, and the bit is at full width here.
             ends |= if met == 0 { 0 } else { bit };
-            left = next;
         }
         ends as u16
     }
