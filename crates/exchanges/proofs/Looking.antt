@@ -3,11 +3,12 @@ use mathlib.Core.Bool.{Bool, not}
 use mathlib.Core.List.{List}
 use mathlib.Core.Logic.{◌≢◌}
 use mathlib.Core.Path.{◌≡◌, ap, ◌∙◌}
-use Prim.Native.Nat.{ℕ, ◌-◌, ◌^◌, ◌≤◌, ◌<◌}
+use Prim.Native.Nat.{ℕ, ◌+◌, ◌-◌, ◌^◌, ◌≤◌, ◌<◌}
 use native.Mathlib.Decide.{ℕ_discrete}
 use native.Mathlib.Nat.{pos_of_ne-zero}
 use native.Mathlib.Omega.{arith}
 use lib.Bits.{bit_and, bit_or}
+use lib.Count.{ones}
 use lib.Dec.{eqb}
 use lib.ListN.{length, get_or}
 use borrow.Author.Tests.{ne_eqb}
@@ -19,9 +20,9 @@ use Rattle.kep.specs.inner.Filling.{ends, comes}
 use Rattle.exchanges.specs.inner.ByLowest.{Known}
 use Rattle.exchanges.specs.inner.Abreast.{bit_where}
 use Rattle.exchanges.specs.inner.Vertices.{Takes}
-use Rattle.kep.proofs.SetLaws.{has_below}
+use Rattle.kep.proofs.SetLaws.{has_below, lowest_is}
 use Rattle.kep.proofs.Parts.{part_le}
-use Rattle.kep.proofs.LowestBit.{lowest_le, lowest_out}
+use Rattle.kep.proofs.LowestBit.{lowest_le, lowest_out, ones_without, ones_none}
 use Rattle.kep.proofs.Sifting.{sift, sift_same, sift_wide, Sifting, turn_in, sifting_turn, sifting_done}
 use Rattle.pool.proofs.ValueLaws.{entries_few}
 use Rattle.exchanges.proofs.Given.{fits, few, known_length, known_givers}
@@ -32,6 +33,9 @@ is_open gs table s v = not (eqb (bit_and (get_or table (s - 2 ^ v) 0) (get_or gs
 
 -- ---- what a turn takes of the vertices left
 
+pub ones_left : (s : ℕ) → 0 < s → ones s ≡ ones (s - 2 ^ lowest s) + 1
+ones_left s p = omega (arith, ones_without s (lowest s) (lowest_is s p).is_in)
+
 none_left : {left rest : ℕ} → Takes left None rest → left ≡ 0
 none_left {left} t = elim (ℕ_discrete left 0) [ yes z ↦ z | no n ↦ let some = rw (ne_eqb left 0 n) at t.tells in cc ]
 
@@ -40,6 +44,13 @@ some_left {left} t = elim (ℕ_discrete left 0) [
   | yes z ↦ let none = rw z at t.tells in cc
   | no n ↦ let some = rw (ne_eqb left 0 n) at t.tells in (n, (cc))
 ]
+
+-- each turn takes one vertex
+pub one_taken : {left rest : ℕ} {p : ℕ × ℕ} → Takes left (Some p) rest → ones left ≡ ones rest + 1
+one_taken {left} t = rw t.leaves (ones_left left (pos_of_ne-zero (some_left t).0))
+
+pub none_taken : {left rest : ℕ} → Takes left None rest → ones left ≡ 0
+none_taken t = rw (none_left t) ones_none
 
 -- ---- the loop over m, a set of the pool's vertices
 

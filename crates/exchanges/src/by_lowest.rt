@@ -148,8 +148,9 @@ impl SetsFrom<'_> {
         // No range: how far it is to the next set depends on the set; `successors` with `take_while` would hold step and test in two closures.
         let mut set = 3 * first;
         while set < end {
-            table[set] = self.filling.path_ends(set, first, table);
-            set = next_allowed(set, first, most);
+            let found = self.filling.path_ends(set, first, table);
+            table[set] = found.ends;
+            set = next_allowed(set, first, found.vertices, most);
         }
     }
 
@@ -177,12 +178,12 @@ fn clear_table(sets: usize, table: &mut [u16])
 
 // Sets as numbers, the places of their entries. The next set of at most `most` vertices that begins where `set` does. Those that begin there are `first` and more by multiples of
 // its double; after one of `most` vertices every set up to that with the lowest bit of its others added has more, and is passed over.
-fn next_allowed(set: usize, first: usize, most: usize) -> usize
+fn next_allowed(set: usize, first: usize, vertices: usize, most: usize) -> usize
     requires several { first < set }
     requires small { set < 2 ^ 14 }
-    ensures { (l : ℕ) → first ≡ 2 ^ l → Allowed l most set → Next l most set result }
+    ensures { (l : ℕ) → first ≡ 2 ^ l → vertices ≡ ones set → Allowed l most set → Next l most set result }
 {
-    if (set.count_ones() as usize) < most {
+    if vertices < most {
         return set + 2 * first;
     }
     let others = set - first;

@@ -13,7 +13,10 @@ pub(crate) struct Filling {
     pub pool: Pool,
     pub limits: Limits,
     pub givers: [u16; 14],
+    // The number of sets of vertices, each with its entry: worked out once, so that loops over sets only compare.
+    sets: usize,
     ghost fits: { IsTrue (pool_fits pool) },
+    ghost counted: { sets ≡ 2 ^ pool.size },
     ghost given: { givers ≡ tabulate (giver_set (graph_of pool)) 14 },
 }
 
@@ -28,6 +31,7 @@ impl Filling {
             pool,
             limits,
             givers,
+            sets: 1usize << pool.size,
         }
     }
 
@@ -36,6 +40,6 @@ impl Filling {
     pub(crate) fn sets(&self) -> usize
         ensures { result ≡ 2 ^ self.now.pool.size }
     {
-        1usize << self.pool.size
+        self.sets
     }
 }

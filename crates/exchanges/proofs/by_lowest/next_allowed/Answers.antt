@@ -1,8 +1,8 @@
 use Rattle.exchanges.proofs.ByLowest.{steps, jumps}
 use Rattle.exchanges.proofs.by_lowest.next_allowed.Goals as goal
 
-pub returns-then-set-most : goal.returns-then-set-most
-returns-then-set-most c l first ok = steps first ok c.if-set-most.true
+pub returns-then-vertices-most : goal.returns-then-vertices-most
+returns-then-vertices-most c l first counted ok = steps first ok (rw counted at c.if-vertices-most.true)
 
 pub returns : goal.returns
-returns c l first ok = jumps first ok c.if-set-most.false
+returns c l first counted ok = jumps first ok (rw counted at c.if-vertices-most.false)

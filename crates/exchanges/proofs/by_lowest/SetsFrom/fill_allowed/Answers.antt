@@ -69,13 +69,13 @@ loop-set-init c =
       begun_start (graph_of f.pool) l f.pool.size a.most b.room b.alone (3 * 2 ^ l) (none_between e),
     )
 
-pub path_ends-requires-clause-first_is_lowest : goal.path_ends-requires-clause-first_is_lowest
-path_ends-requires-clause-first_is_lowest c =
+pub path_ends-found-requires-clause-first_is_lowest : goal.path_ends-found-requires-clause-first_is_lowest
+path_ends-found-requires-clause-first_is_lowest c =
     let s = turn c.first-first.ensures (omega arith) c.loop-set.invariant in
     c.first-first.ensures ∙ ap (λ (v : ℕ). 2 ^ v) (sym (lowest_of s.allowed.begins))
 
-pub path_ends-requires-clause-smaller_known : goal.path_ends-requires-clause-smaller_known
-path_ends-requires-clause-smaller_known c =
+pub path_ends-found-requires-clause-smaller_known : goal.path_ends-found-requires-clause-smaller_known
+path_ends-found-requires-clause-smaller_known c =
     let a = c.args in
     let f = a.self.now.filling.now in
     let b = begun f c.args.self.now.in_pool c.requires.room c.requires.held c.if-most-eq0.false in
@@ -91,9 +91,10 @@ loop-set-preserved c =
     let f = a.self.now.filling.now in
     let b = begun f c.args.self.now.in_pool c.requires.room c.requires.held c.if-most-eq0.false in
     let s = turn c.first-first.ensures (omega arith) c.loop-set.invariant in
-    let next = c.next_allowed-set.ensures a.self.now.low c.first-first.ensures s.allowed in (
+    let found = c.path_ends-found.ensures in
+    let next = c.next_allowed-set.ensures a.self.now.low c.first-first.ensures found.vertices s.allowed in (
       λ _. next_allowed s.allowed next,
-      rw c.first-first.ensures (begun_more (graph_of f.pool) a.self.now.low f.pool.size a.most b.room b.alone s.small s.allowed s.filled c.path_ends.ensures next),
+      rw c.first-first.ensures (begun_more (graph_of f.pool) a.self.now.low f.pool.size a.most b.room b.alone s.small s.allowed s.filled found.ends next),
     )
 
 pub returns : goal.returns
