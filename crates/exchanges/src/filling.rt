@@ -1,5 +1,5 @@
 // What one filling of the exchange table goes by.
-ghost use Rattle.std.specs.Prelude.{◌≡◌, ◌^◌, IsTrue};
+ghost use Rattle.std.specs.Prelude.{◌≡◌, ◌^◌, T};
 ghost use Rattle.kep.specs.Lists.{tabulate};
 ghost use Rattle.kep.specs.Graph.{givers as giver_set};
 ghost use Rattle.pool.specs.Value.{graph_of, pool_fits};
@@ -15,14 +15,14 @@ pub(crate) struct Filling {
     pub givers: [u16; 14],
     // The number of sets of vertices, each with its entry: worked out once, so that loops over sets only compare.
     sets: usize,
-    ghost fits: { IsTrue (pool_fits pool) },
+    ghost fits: { T (pool_fits pool) },
     ghost counted: { sets ≡ 2 ^ pool.size },
     ghost given: { givers ≡ tabulate (giver_set (graph_of pool)) 14 },
 }
 
 impl Filling {
     pub(crate) fn new(pool: Pool, limits: Limits) -> Filling
-        requires { IsTrue (pool_fits pool) }
+        requires { T (pool_fits pool) }
         ensures pool { result.pool ≡ pool }
         ensures limits { result.limits ≡ limits }
     {

@@ -1,5 +1,5 @@
 // What vertices and sets of them are worth.
-ghost use Rattle.std.specs.Prelude.{◌≡◌, ◌+◌, ◌^◌, ◌≤◌, ◌<◌, IsTrue, length};
+ghost use Rattle.std.specs.Prelude.{◌≡◌, ◌+◌, ◌^◌, ◌≤◌, ◌<◌, T, length};
 ghost use Rattle.kep.specs.Lists.{tabulate, written_to};
 ghost use Rattle.kep.specs.Table.{per_member};
 ghost use Rattle.kep.specs.inner.BestFilling.{Worths, worth_by};
@@ -23,7 +23,7 @@ pub(crate) struct VertexWorths {
 impl VertexWorths {
     // Those of a pool that passes its test.
     pub(crate) fn new(pool: Pool) -> VertexWorths
-        requires { IsTrue (pool_fits pool) }
+        requires { T (pool_fits pool) }
         ensures size { result.size ≡ pool.size }
         ensures each { result.each ≡ tabulate (worth_in pool) 14 }
     {

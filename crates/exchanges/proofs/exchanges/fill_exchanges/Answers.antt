@@ -1,5 +1,3 @@
-use Rattle.kep.proofs.Tests.{is_true}
-use Rattle.pool.specs.Value.{pool_fits}
 use Rattle.std.proofs.lemmas.Result.{err_from_is_err_and}
 use Rattle.exchanges.proofs.ExchangesCall.{passed, leaves, filled}
 use Rattle.exchanges.proofs.exchanges.fill_exchanges.Goals as goal
@@ -11,7 +9,7 @@ returns-in_err-test_exchanges c =
     rw (p.1, p.2) record { outcome = told.0; left = told.1 }
 
 pub new-filling-requires : goal.new-filling-requires
-new-filling-requires c = is_true (pool_fits c.args.pool) (passed c.args.pool c.args.limits _ c.in_ok-test_exchanges.ensures).fits
+new-filling-requires c = (passed c.args.pool c.args.limits _ c.in_ok-test_exchanges.ensures).fits
 
 pub fill_by_lowest-requires : goal.fill_by_lowest-requires
 fill_by_lowest-requires c = record { room = rw c.new-filling.ensures.pool (passed c.args.pool c.args.limits _ c.in_ok-test_exchanges.ensures).long }

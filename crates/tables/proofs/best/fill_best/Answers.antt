@@ -1,8 +1,6 @@
 use native.Mathlib.Omega.{arith}
-use Rattle.pool.specs.Value.{pool_fits}
 use Rattle.pool.proofs.Accepted.{fitting_pool}
 use Rattle.pool.proofs.ValueLaws.{fits_size, entries_are}
-use Rattle.kep.proofs.Tests.{is_true}
 use Rattle.std.proofs.lemmas.Result.{err_from_is_err_and}
 use Rattle.tables.proofs.BestCall.{pool_refused, exchanges_short, table_short, filled}
 use Rattle.tables.proofs.best.fill_best.Goals as goal
@@ -31,7 +29,7 @@ returns-then-table-entries c =
     rw c.into-then-table-entries.ensures record { outcome = told.0; left = told.1 }
 
 pub new-worths-requires : goal.new-worths-requires
-new-worths-requires c = is_true (pool_fits c.args.pool) (fitting_pool c.in_ok-test.ensures)
+new-worths-requires c = fitting_pool c.in_ok-test.ensures
 
 pub returns : goal.returns
 returns c =

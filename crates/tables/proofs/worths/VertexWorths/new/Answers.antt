@@ -1,6 +1,5 @@
-use Rattle.kep.proofs.Tests.{from_true}
 use Rattle.tables.proofs.BestCode.{worths_are}
 use Rattle.tables.proofs.worths.VertexWorths.new.Goals as goal
 
 pub invariant_of-result : goal.invariant_of-result
-invariant_of-result c = rw c.vertex_worths.ensures (record { small = worths_are c.args.pool (from_true c.requires) })
+invariant_of-result c = rw c.vertex_worths.ensures (record { small = worths_are c.args.pool c.requires })
