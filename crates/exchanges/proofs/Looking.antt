@@ -22,7 +22,7 @@ use Rattle.exchanges.specs.inner.Abreast.{bit_where}
 use Rattle.exchanges.specs.inner.Vertices.{Takes}
 use Rattle.kep.proofs.SetLaws.{has_below, lowest_is}
 use Rattle.kep.proofs.Parts.{part_le}
-use Rattle.kep.proofs.LowestBit.{lowest_le, lowest_out, ones_without, ones_none}
+use Rattle.kep.proofs.LowestBit.{lowest_le, lowest_out, ones_without}
 use Rattle.kep.proofs.Sifting.{sift, sift_same, sift_wide, Sifting, turn_in, sifting_turn, sifting_done}
 use Rattle.pool.proofs.ValueLaws.{entries_few}
 use Rattle.exchanges.proofs.Given.{fits, few, known_length, known_givers}
@@ -48,9 +48,6 @@ some_left {left} t = elim (ℕ_discrete left 0) [
 -- each turn takes one vertex
 pub one_taken : {left rest : ℕ} {p : ℕ × ℕ} → Takes left (Some p) rest → ones left ≡ ones rest + 1
 one_taken {left} t = rw t.leaves (ones_left left (pos_of_ne-zero (some_left t).0))
-
-pub none_taken : {left rest : ℕ} → Takes left None rest → ones left ≡ 0
-none_taken t = rw (none_left t) ones_none
 
 -- ---- the loop over m, a set of the pool's vertices
 

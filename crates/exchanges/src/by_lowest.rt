@@ -145,7 +145,7 @@ impl SetsFrom<'_> {
             return;
         }
         let end = self.filling.sets();
-        // No range: how far it is to the next set depends on the set; `successors` with `take_while` would hold step and test in two closures.
+        // No range: how far it is to the next set depends on the vertices counted in this one, so no iterator knows it before the turn.
         let mut set = 3 * first;
         while set < end {
             let found = self.filling.path_ends(set, first, table);

@@ -95,7 +95,7 @@ fn best_entry(s: usize, offers: &[u32], table: &[u32]) -> u64
     ensures { result ≡ next_best offers.now table.now s }
 {
     let mut found: u64 = 0;
-    // No range has these steps, and `successors` would hold the same step in a closure.
+    // No range has these steps; an iterator of its own would be longer than the loop, the only one over parts.
     let mut t = s;
     while t != 0 {
         let rest = s - t;

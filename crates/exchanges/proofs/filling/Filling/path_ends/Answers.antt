@@ -12,7 +12,7 @@ use Rattle.pool.proofs.ValueLaws.{entries_few}
 use Rattle.kep.proofs.Sifting.{sifting_le}
 use Rattle.kep.proofs.Ends.{ends_several}
 use Rattle.exchanges.proofs.Given.{fits, known_length}
-use Rattle.exchanges.proofs.Looking.{vertex, bit_inside, look, looked, one_taken, none_taken, ones_left}
+use Rattle.exchanges.proofs.Looking.{vertex, bit_inside, look, looked, one_taken, ones_left}
 use Rattle.exchanges.proofs.filling.Filling.path_ends.Goals.{else-met-eq0, then-met-eq0}
 use Rattle.exchanges.proofs.filling.Filling.path_ends.Goals as goal
 
@@ -42,9 +42,6 @@ loop-bit-preserved c =
 
 pub overflow_cast-result : goal.overflow_cast-result
 overflow_cast-result c = let f = c.args.self.now in omega (arith, entries_few f.pool (fits f), sifting_le c.loop-bit.invariant.0)
-
-pub returns-clause-vertices : goal.returns-clause-vertices
-returns-clause-vertices c = omega (arith, c.loop-bit.invariant.1, none_taken c.in-None.ensures.steps)
 
 pub returns-clause-ends : goal.returns-clause-ends
 returns-clause-ends c =
