@@ -86,6 +86,7 @@ fn test_lent(
     ensures { outcome_of result pool ≡ tested (lent_tests pool limits exchanges best plan) 0 (accepted pool) }
 {
     test_exchanges(pool, limits, exchanges)?;
+    // By a shift, as in `test_exchanges`: before there is a type of a pool that fits.
     let entries = 1usize << pool.size;
     let bytes = PlanRecord::WIDTH * usize::from(pool.size);
     if best < entries {

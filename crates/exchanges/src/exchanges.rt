@@ -26,6 +26,7 @@ pub fn test_exchanges(pool: Pool, limits: Limits, table: usize) -> Result<(), Re
 {
     pool.test()?;
     limits.test()?;
+    // By a shift: the lengths are tested before there is a type of a pool that fits, and a public method of `Pool` may ask for nothing.
     if table < 1usize << pool.size {
         return Err(Cause::ExchangeTable.into());
     }

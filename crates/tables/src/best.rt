@@ -16,6 +16,7 @@ pub fn fill_best(pool: Pool, exchanges: &[u16], table: &mut [u32]) -> Result<usi
     ensures left { table.new ≡ best_left pool exchanges.now table.old }
 {
     pool.test()?;
+    // By a shift, as in `test_exchanges` (exchanges): before there is a type of a pool that fits.
     let entries = 1usize << pool.size;
     if exchanges.len() < entries {
         return Err(Cause::ExchangeTable.into());

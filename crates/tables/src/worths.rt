@@ -33,7 +33,7 @@ impl VertexWorths {
         }
     }
 
-    // The number of sets of vertices.
+    // The number of sets of vertices. As `Filling::sets` in exchanges.
     pub(crate) fn entries(&self) -> usize
         ensures { result ≡ 2 ^ self.now.size }
     {
