@@ -17,6 +17,7 @@ use borrow.Author.Tests.{not-true, not-false}
 use borrow.Rule.Slice.PartMut.{put_mid, mid_of, put_same}
 use Rattle.kep.specs.Sets.{has, Part, counted, set_of, set_where, lowest_below, with_vertex, without_vertex}
 use Rattle.kep.specs.Exchange.{last_of}
+use Rattle.kep.proofs.Told.{some_told}
 use Rattle.kep.proofs.Tests.{or_right, is_false, from_true, from_false, eq→eqb, and_iff}
 use Rattle.kep.proofs.SetLaws.{IsLowest, nonempty, lowest_is, lowest_below_lem, has_below, has_none, not_in_empty}
 use Rattle.kep.proofs.Parts.{part_le, part_refl, part_trans, has_and, has_or, in_rest, and_part}
@@ -107,21 +108,6 @@ pub record Open (f : Field) (path u left more : ℕ) : Type 0 where
   pub tried : (v : ℕ) → Next f path u v → (T (has left v) → ⊥) → Completable f (2 ^ v + path) v → ⊥
 
 -- ---- what take_lowest tells of the vertices left
-
-module _ {left : ℕ} {told : Option ℕ} (tells : told ≡ (if eqb left 0 then None else Some (lowest_below 16 left))) where
-  pub none_left : told ≡ None → left ≡ 0
-  none_left z = go (eqb left 0) refl tells
-    where
-      go : (b : Bool) → eqb left 0 ≡ b → told ≡ (if b then None else Some (lowest_below 16 left)) → left ≡ 0
-      go true q _ = eqb→eq left 0 (from_true q)
-      go false _ e = absurd (some_none e z)
-
-  pub lowest_left : {v : ℕ} → told ≡ Some v → (left ≢ 0) × (v ≡ lowest_below 16 left)
-  lowest_left {v} one = go (eqb left 0) refl tells
-    where
-      go : (b : Bool) → eqb left 0 ≡ b → told ≡ (if b then None else Some (lowest_below 16 left)) → (left ≢ 0) × (v ≡ lowest_below 16 left)
-      go true _ e = absurd (some_none one e)
-      go false q e = ((λ z. from_false q (eq→eqb left 0 z)), some_same (sym one ∙ e))
 
 -- ---- what is lent
 
@@ -249,10 +235,10 @@ module _ {s : Ways} {dead₀ bytes₀ dead bytes : List ℕ} {path u left v : �
     (one : lowest_told ≡ Some v)
   where
     some : left ≢ 0
-    some = (lowest_left tells one).0
+    some = (some_told _ tells one).0
 
     low : v ≡ lowest_below 16 left
-    low = (lowest_left tells one).1
+    low = (some_told _ tells one).1
 
     abbrev G : Field
     G = field_of s

@@ -1,17 +1,14 @@
 -- A turn of pass one: the lowest vertex left of m is looked at, by the givers and the table that code has.
 use mathlib.Core.Bool.{Bool, not}
 use mathlib.Core.List.{List}
-use mathlib.Core.Logic.{◌≢◌}
-use mathlib.Core.Path.{◌≡◌, ap, ◌∙◌}
+use mathlib.Core.Path.{◌≡◌, refl, ap, ◌∙◌}
 use Prim.Native.Nat.{ℕ, ◌+◌, ◌-◌, ◌^◌, ◌≤◌, ◌<◌}
-use native.Mathlib.Decide.{ℕ_discrete}
 use native.Mathlib.Nat.{pos_of_ne-zero}
 use native.Mathlib.Omega.{arith}
 use lib.Bits.{bit_and, bit_or}
 use lib.Count.{ones}
 use lib.Dec.{eqb}
 use lib.ListN.{length, get_or}
-use borrow.Author.Tests.{ne_eqb}
 use Rattle.std.proofs.Common.{Some, None}
 use Rattle.exchanges.specs.declared.filling.Filling.{Filling}
 use Rattle.kep.specs.inner.Lowest.{lowest}
@@ -20,9 +17,10 @@ use Rattle.kep.specs.inner.Filling.{ends, comes}
 use Rattle.exchanges.specs.inner.ByLowest.{Known}
 use Rattle.exchanges.specs.inner.Abreast.{bit_where}
 use Rattle.exchanges.specs.inner.Vertices.{Takes}
-use Rattle.kep.proofs.SetLaws.{has_below, lowest_is}
+use Rattle.kep.proofs.SetLaws.{has_below}
 use Rattle.kep.proofs.Parts.{part_le}
-use Rattle.kep.proofs.LowestBit.{lowest_le, lowest_out, ones_without}
+use Rattle.kep.proofs.Told.{none_told, some_told}
+use Rattle.kep.proofs.LowestBit.{lowest_le, lowest_out, ones_lowest}
 use Rattle.kep.proofs.Sifting.{sift, sift_same, sift_wide, Sifting, turn_in, sifting_turn, sifting_done}
 use Rattle.pool.proofs.ValueLaws.{entries_few}
 use Rattle.exchanges.proofs.Given.{fits, few, known_length, known_givers}
@@ -33,21 +31,9 @@ is_open gs table s v = not (eqb (bit_and (get_or table (s - 2 ^ v) 0) (get_or gs
 
 -- ---- what a turn takes of the vertices left
 
-pub ones_left : (s : ℕ) → 0 < s → ones s ≡ ones (s - 2 ^ lowest s) + 1
-ones_left s p = omega (arith, ones_without s (lowest s) (lowest_is s p).is_in)
-
-none_left : {left rest : ℕ} → Takes left None rest → left ≡ 0
-none_left {left} t = elim (ℕ_discrete left 0) [ yes z ↦ z | no n ↦ let some = rw (ne_eqb left 0 n) at t.tells in cc ]
-
-some_left : {left rest : ℕ} {p : ℕ × ℕ} → Takes left (Some p) rest → (left ≢ 0) × (p ≡ (2 ^ lowest left, lowest left))
-some_left {left} t = elim (ℕ_discrete left 0) [
-  | yes z ↦ let none = rw z at t.tells in cc
-  | no n ↦ let some = rw (ne_eqb left 0 n) at t.tells in (n, (cc))
-]
-
 -- each turn takes one vertex
 pub one_taken : {left rest : ℕ} {p : ℕ × ℕ} → Takes left (Some p) rest → ones left ≡ ones rest + 1
-one_taken {left} t = rw t.leaves (ones_left left (pos_of_ne-zero (some_left t).0))
+one_taken {left} t = rw t.leaves (ones_lowest left (pos_of_ne-zero (some_told _ t.tells refl).0))
 
 -- ---- the loop over m, a set of the pool's vertices
 
@@ -57,13 +43,13 @@ module _ (f : Filling) {m : ℕ} (b : m < 2 ^ f.pool.size) where
 
   module _ (table : List ℕ) (s : ℕ) {left found rest : ℕ} {p : ℕ × ℕ} (h : Sifting 64 (is_open f.givers table s) m left found) (t : Takes left (Some p) rest) where
     some : 0 < left
-    some = pos_of_ne-zero (some_left t).0
+    some = pos_of_ne-zero (some_told _ t.tells refl).0
 
     bit_is : p.0 ≡ 2 ^ lowest left
-    bit_is = ap (λ (q : ℕ × ℕ). q.0) (some_left t).1
+    bit_is = ap (λ (q : ℕ × ℕ). q.0) (some_told _ t.tells refl).1
 
     vertex_is : p.1 ≡ lowest left
-    vertex_is = ap (λ (q : ℕ × ℕ). q.1) (some_left t).1
+    vertex_is = ap (λ (q : ℕ × ℕ). q.1) (some_told _ t.tells refl).1
 
     -- the vertex has its givers
     pub vertex : p.1 < length f.givers
@@ -82,7 +68,7 @@ module _ (f : Filling) {m : ℕ} (b : m < 2 ^ f.pool.size) where
       → found ≡ sift f.pool.size (comes (graph_of f.pool) (ends (graph_of f.pool)) s) m
   unfolding is_open comes
   looked {table} {s} smaller h t =
-      sifting_done (none_left t) h
+      sifting_done (none_told _ t.tells refl) h
       ∙ sift_wide 64 f.pool.size m (is_open f.givers table s) wide b
       ∙ sift_same f.pool.size m (is_open f.givers table s) (comes (graph_of f.pool) (ends (graph_of f.pool)) s)
       (λ u i. rw (smaller.each u i, known_givers f u (has_below f.pool.size m u b i)))

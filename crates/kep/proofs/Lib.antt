@@ -1,5 +1,6 @@
 -- lists, and the tests on them
 pub mod Tests
+pub mod Told
 pub mod Each
 pub mod ListLaws
 pub mod Permutations

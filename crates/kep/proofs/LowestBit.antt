@@ -50,6 +50,9 @@ module _ (s : ℕ) (p : 0 < s) where
   pub lowest_bit : s - bit_and (s - 1) s ≡ 2 ^ lowest s
   lowest_bit = omega (arith, lowest_out, lowest_le)
 
+  pub ones_lowest : ones s ≡ ones (s - 2 ^ lowest s) + 1
+  ones_lowest = omega (arith, ones_without s (lowest s) (lowest_is s p).is_in)
+
   pub trailing_is : (k : ℕ) → s < 2 ^ k → count_trailing_zeros k s ≡ lowest s
   trailing_is k b = sym (lowest_eq s (count_trailing_zeros k s) (trailing_lowest k s p b))
 

@@ -5,7 +5,8 @@ use borrow.Author.Rules.{rules}
 use borrow.Rule.Slice.PartMut.{put_mid, same_len_mid}
 use lib.ListN.{length}
 use Rattle.kep.proofs.Parts.{part_le}
-use Rattle.clearing.proofs.Seek.{next_lt, has_with, opens, ended, none_left, room, deeper_falls, deeper, kept_there, found_there, none_there, onward_falls}
+use Rattle.kep.proofs.Told.{none_told}
+use Rattle.clearing.proofs.Seek.{next_lt, has_with, opens, ended, room, deeper_falls, deeper, kept_there, found_there, none_there, onward_falls}
 use Rattle.clearing.proofs.seeking.Step.+seek.Goals as goal
 
 pub loop-v-init : goal.loop-v-init
@@ -67,6 +68,6 @@ invariant_of-longer t c =
 pub returns : goal.returns
 returns t c =
     let inv = c.loop-v.invariant in
-    let none = none_left c.take_lowest.ensures.told c.in_default.is in
+    let none = none_told _ c.take_lowest.ensures.told c.in_default.is in
     let told = ended c.args.self.now.few inv.entering inv.opens none refl inv.long inv.same_bytes inv.untouched c.end_at.ensures.told c.end_at.ensures.kept in
     record { dead = told.0; kept = told.1.0; sought = told.1.1 }

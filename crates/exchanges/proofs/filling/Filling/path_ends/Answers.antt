@@ -11,8 +11,9 @@ use Rattle.pool.specs.Value.{graph_of}
 use Rattle.pool.proofs.ValueLaws.{entries_few}
 use Rattle.kep.proofs.Sifting.{sifting_le}
 use Rattle.kep.proofs.Ends.{ends_several}
+use Rattle.kep.proofs.LowestBit.{ones_lowest}
 use Rattle.exchanges.proofs.Given.{fits, known_length}
-use Rattle.exchanges.proofs.Looking.{vertex, bit_inside, look, looked, one_taken, ones_left}
+use Rattle.exchanges.proofs.Looking.{vertex, bit_inside, look, looked, one_taken}
 use Rattle.exchanges.proofs.filling.Filling.path_ends.Goals.{else-met-eq0, then-met-eq0}
 use Rattle.exchanges.proofs.filling.Filling.path_ends.Goals as goal
 
@@ -20,7 +21,7 @@ pub loop-bit-init : goal.loop-bit-init
 loop-bit-init c =
     let set = c.args.set in
     let left : c.into_iter-bit-iterator.result.0 ≡ set - 2 ^ lowest set = search rules in
-    (search rules, rw left (omega (arith, ones_left set (omega (arith, c.requires.several)))))
+    (search rules, rw left (omega (arith, ones_lowest set (omega (arith, c.requires.several)))))
 
 pub overflow_sub-before : goal.overflow_sub-before
 overflow_sub-before c = let a = c.args in omega (arith, bit_inside a.self.now (omega arith) a.table.now a.set c.loop-bit.invariant.0 c.in-Some.ensures.steps)
