@@ -32,8 +32,9 @@ struct swap_answer swap_fill_exchanges(uint8_t places, uint8_t houses, const uin
                                        uint16_t *table, size_t table_length);
 
 /* Fills the best table: for every set of places, the greatest members * 65536 + weeks that pairwise disjoint, marked, nonempty sets inside it can hold; only
- * members' weeks count. A set is marked where its entry in the lent exchange table, which may hold anything, is not 0. Refused by 6, 8, 9. first: entries
- * written; all beyond them is untouched. */
+ * members' weeks count. A set is marked where its entry in the lent exchange table, which may hold anything, is not 0. The nonempty parts of a set are tried from
+ * the set itself down by number, until one is marked and, with the best of the rest, serves every member in the set; a set without members tries none.
+ * Refused by 6, 8, 9. first: entries written; second: parts tried over all sets; all beyond the entries is untouched. */
 struct swap_answer swap_fill_best(uint8_t places, uint8_t houses, const uint16_t gives[14], const uint16_t weeks[14], const uint16_t *exchanges,
                                   size_t exchanges_length, uint32_t *table, size_t table_length);
 

@@ -1,6 +1,7 @@
 //! The pools of the benchmarks, each with the limits it is cleared at.
 
 use crate::layout::GREATEST_WEEKS;
+use crate::marks::marks_where;
 use crate::oracle::exchange::Limits;
 use crate::oracle::pool::{places_of, read, Pool};
 use crate::pools::{
@@ -115,6 +116,7 @@ fn short_limits() -> Vec<BenchPool> {
         bench_pool("two sides of 7", 0, layers(2, 7), 2, 0),
         bench_pool("only 4 houses give", 4, houses_give(14, 4), 3, 4),
         bench_pool("7 layers of 2", 0, layers(7, 2), 7, 7),
+        bench_pool("three sides of 5, 5 and 4", 0, three_sides(), 3, 0),
     ]
 }
 
@@ -236,6 +238,16 @@ fn path(places: usize) -> Arcs {
     (0..places).map(next).collect()
 }
 
+/// Every third place is of one side, and each side gives to the next: all exchanges of three
+/// members are rings through the sides, and there are no shorter ones.
+fn three_sides() -> Arcs {
+    let takers = |giver: usize| {
+        let next = (giver + 1) % 3;
+        (next..14).step_by(3).collect()
+    };
+    (0..14).map(takers).collect()
+}
+
 fn houses_give(places: usize, houses: usize) -> Arcs {
     let mut gives = all_arcs(places, houses, false);
     gives[houses..].iter_mut().for_each(Vec::clear);
@@ -251,4 +263,27 @@ fn shuffled_ring() -> Arcs {
         gives[order[at]].push(order[(at + 1) % 14]);
     }
     gives
+}
+
+/// Exchange tables for the best table alone, which no arcs need to have made; each with a name.
+pub fn bench_marks(places: usize) -> Vec<(&'static str, Vec<u16>)> {
+    let random = &mut Random::new(7);
+    let mut one_in = |sets| {
+        let mark = |_| u16::from(random.below(sets) == 0);
+        (0..1 << places).map(mark).collect()
+    };
+    vec![
+        ("nothing marked", marks_where(places, |_| false)),
+        (
+            "one lone member marked",
+            marks_where(places, |set| set == 4),
+        ),
+        (
+            "each member alone marked",
+            marks_where(places, usize::is_power_of_two),
+        ),
+        ("one in ten marked at random", one_in(10)),
+        ("one in two marked at random", one_in(2)),
+        ("everything marked", marks_where(places, |_| true)),
+    ]
 }

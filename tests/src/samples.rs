@@ -88,6 +88,11 @@ pub fn pool_with(places: usize, houses: usize, gives: Vec<Vec<usize>>) -> Pool {
     }
 }
 
+/// A pool without arcs: for the best table, which rests on marks alone.
+pub fn nobody_gives(places: usize, houses: usize) -> Pool {
+    pool_with(places, houses, vec![Vec::new(); places])
+}
+
 /// The same pool with these weeks.
 pub fn with_weeks(pool: &Pool, weeks: Vec<u16>) -> Pool {
     Pool {

@@ -9,24 +9,55 @@ const ROW: Duration = Duration::from_millis(300);
 const SAMPLE: f64 = 20.0;
 
 pub fn print_heading(title: &str) {
-    println!("\n{title}\n");
-    println!("| pool | ours, µs | tuned, µs | ratio |");
-    println!("|---|---|---|---|");
+    print_heading_of(title, ["tuned"]);
 }
 
-/// Runs both in turn, so that a busy machine slows them alike, and prints the least times.
+/// A column for the call and for each that stands beside it, then the ratio to each.
+pub fn print_heading_of<const BESIDE: usize>(title: &str, beside: [&str; BESIDE]) {
+    let times = beside.map(|name| format!(" {name}, µs |")).concat();
+    let ratios = beside.map(|name| format!(" ours / {name} |")).concat();
+    println!("\n{title}\n");
+    println!("| pool | ours, µs |{times}{ratios}");
+    println!("|---|---|{}", "---|---|".repeat(BESIDE));
+}
+
 pub fn print_row(name: &str, mut call: impl FnMut(), mut baseline: impl FnMut()) {
-    let call_runs = runs_in_a_sample(&mut call);
-    let baseline_runs = runs_in_a_sample(&mut baseline);
-    let mut call_least = f64::INFINITY;
-    let mut baseline_least = f64::INFINITY;
+    print_row_of(name, [&mut call, &mut baseline]);
+}
+
+/// Runs all in turn, so that a busy machine slows them alike, and prints the least times; the
+/// first is the call.
+pub fn print_row_of<const SIDES: usize>(name: &str, runs: [&mut dyn FnMut(); SIDES]) {
+    let mut sides = runs.map(Side::new);
     let start = Instant::now();
     while start.elapsed() < ROW {
-        call_least = call_least.min(micros(&mut call, call_runs));
-        baseline_least = baseline_least.min(micros(&mut baseline, baseline_runs));
+        sides.iter_mut().for_each(Side::sample);
     }
-    let ratio = call_least / baseline_least;
-    println!("| {name} | {call_least:.2} | {baseline_least:.2} | {ratio:.2} |");
+    let least = sides.map(|side| side.least);
+    let times = least.map(|time| format!(" {time:.2} |")).concat();
+    let ratios = least.map(|time| format!(" {:.2} |", least[0] / time));
+    println!("| {name} |{times}{}", ratios[1..].concat());
+}
+
+/// What runs in turn with others, and its least time until now.
+struct Side<'a> {
+    run: &'a mut dyn FnMut(),
+    runs: usize,
+    least: f64,
+}
+
+impl<'a> Side<'a> {
+    fn new(mut run: &'a mut dyn FnMut()) -> Self {
+        Side {
+            runs: runs_in_a_sample(&mut run),
+            run,
+            least: f64::INFINITY,
+        }
+    }
+
+    fn sample(&mut self) {
+        self.least = self.least.min(micros(&mut self.run, self.runs));
+    }
 }
 
 /// The first run, which does not count, finds the memory cold.

@@ -1,68 +1,22 @@
 //! Filling the exchange table and the best table.
 
-use std::fmt::Debug;
-use swapboard_tests::baseline::tables as baseline;
+use swapboard_tests::baseline::{plain, tables as baseline};
 use swapboard_tests::bench_pools::{pools_of_fourteen, BenchPool};
 use swapboard_tests::calls::{fill_best, fill_exchanges, Answer};
+use swapboard_tests::filling::{expect_best, expect_exchanges, filled_best};
 use swapboard_tests::large::{best_by_lowest_place, entry_by_search, exchanges_by_paths};
 use swapboard_tests::layout::{GREATEST_WEEKS, MOST_PLACES};
-use swapboard_tests::lent::{Garbage, Lent};
+use swapboard_tests::lent::Lent;
+use swapboard_tests::marks::*;
 use swapboard_tests::oracle::exchange::Limits;
 use swapboard_tests::oracle::held::Held;
 use swapboard_tests::oracle::pool::{places_of, read, set_number, Pool};
+use swapboard_tests::oracle::tried::parts_tried;
 use swapboard_tests::oracle::{best, exchange};
 use swapboard_tests::pools::*;
 use swapboard_tests::random::Random;
 use swapboard_tests::refusal::{refuse, Refusal};
 use swapboard_tests::samples::*;
-
-/// The answer and all of the lent table as expected.
-fn expect_filled<T: Garbage>(
-    answer: Answer,
-    table: &Lent<T>,
-    expected: &Result<Vec<T>, Refusal>,
-    case: impl Debug,
-) {
-    match expected {
-        Ok(entries) => {
-            let written = entries.len() as u64;
-            assert_eq!(answer, Answer::accepted(written, 0), "{case:?}");
-            table.expect_front(entries, case);
-        }
-        Err(refusal) => {
-            assert_eq!(answer, Answer::refused(*refusal), "{case:?}");
-            table.expect_untouched(case);
-        }
-    }
-}
-
-/// Fills an exchange table of `room` entries of garbage.
-fn expect_exchanges(
-    random: &mut Random,
-    value: &PoolValue,
-    limits: Limits,
-    room: usize,
-    expected: &Result<Vec<u16>, Refusal>,
-) {
-    let mut table = Lent::garbage(random, room);
-    let answer = fill_exchanges(value, limits, table.part());
-    expect_filled(answer, &table, expected, (value, limits));
-}
-
-/// Fills a best table of `room` entries of garbage.
-fn expect_best(
-    random: &mut Random,
-    value: &PoolValue,
-    exchanges: &[u16],
-    room: usize,
-    expected: &Result<Vec<u32>, Refusal>,
-) {
-    let mut lent_exchanges = Lent::holding(random, exchanges);
-    let mut table = Lent::garbage(random, room);
-    let answer = fill_best(value, lent_exchanges.part(), table.part());
-    lent_exchanges.expect_untouched(value);
-    expect_filled(answer, &table, expected, (value, exchanges));
-}
 
 fn compare_exchanges(random: &mut Random, value: &PoolValue, limits: Limits, room: usize) {
     let expected = exchange::fill(value, limits, room);
@@ -285,7 +239,20 @@ fn second_methods_agree_with_the_brute_force() {
         let marks = random_marks(random, 1 << places);
         let table = best::table(&pool, &marks);
         assert_eq!(best_by_lowest_place(&pool, &marks), table, "{pool:?}");
-        assert_eq!(best_by_baseline(&pool, &marks), table, "{pool:?}");
+        compare_baselines(&pool, &marks, table);
+    }
+}
+
+/// Its entries by the second method, the parts tried by the walk.
+#[test]
+fn best_tables_of_the_baselines() {
+    let random = &mut Random::new(236);
+    for places in 7..=MOST_PLACES {
+        for _ in 0..if places < 12 { 10 } else { 2 } {
+            let pool = some_pool(random, places);
+            let marks = random_marks(random, 1 << places);
+            compare_baselines(&pool, &marks, best_by_lowest_place(&pool, &marks));
+        }
     }
 }
 
@@ -296,13 +263,16 @@ fn exchanges_by_baseline(pool: &Pool, limits: Limits) -> Vec<u16> {
     table
 }
 
-/// The table is cleared by the call itself.
-fn best_by_baseline(pool: &Pool, marks: &[u16]) -> Vec<u32> {
-    let mut worth = vec![u32::MAX; full_entries(pool)];
-    let mut table = vec![u32::MAX; full_entries(pool)];
-    let filled = baseline::fill_best(&pool.value(), marks, &mut worth, &mut table);
-    assert_eq!(filled, Ok(table.len()));
-    table
+/// The tuned one and the plain one. What stands in the tables before makes no difference.
+fn compare_baselines(pool: &Pool, marks: &[u16], entries: Vec<u32>) {
+    let tried = parts_tried(pool, marks, &entries);
+    for fill_best in [baseline::fill_best, plain::fill_best] {
+        let mut worth = vec![u32::MAX; entries.len()];
+        let mut table = vec![u32::MAX; entries.len()];
+        let filled = fill_best(&pool.value(), marks, &mut worth, &mut table);
+        assert_eq!(filled, Ok((table.len(), tried)), "{pool:?} {marks:?}");
+        assert_eq!(table, entries, "{pool:?} {marks:?}");
+    }
 }
 
 /// Room for the entries and some more.
@@ -397,21 +367,6 @@ fn pools_of_the_benchmark() {
     }
 }
 
-/// A table of any contents: nothing, everything or some sets marked.
-fn random_marks(random: &mut Random, entries: usize) -> Vec<u16> {
-    let percent = random.pick(&[0, 2, 10, 30, 60, 100]);
-    (0..entries).map(|_| random_mark(random, percent)).collect()
-}
-
-/// Marks also with no bit in their low or in their high byte.
-fn random_mark(random: &mut Random, percent: usize) -> u16 {
-    if !random.chance(percent) {
-        return 0;
-    }
-    let any = random.number() as u16;
-    random.pick(&[1, 0x0100, 0x8000, 0xFFFF, any | 4])
-}
-
 #[test]
 fn best_tables_of_random_marks() {
     let random = &mut Random::new(211);
@@ -442,7 +397,7 @@ fn best_tables_of_few_marks_at_eight_and_nine_places() {
             let pool = some_pool(random, places);
             let mut marks = vec![0; 1 << places];
             for _ in 0..25 {
-                marks[random.below(1 << places)] = random_mark(random, 100);
+                marks[random.below(1 << places)] = random_mark(random);
             }
             compare_best(random, &pool.value(), &marks, 1 << places);
         }
@@ -486,12 +441,8 @@ fn marked_sets_of_houses_only_are_worth_nothing() {
     let random = &mut Random::new(215);
     for places in 1..=8 {
         for houses in 1..=places {
-            let nobody_gives = pool_with(places, houses, vec![Vec::new(); places]);
-            let pool = with_some_weeks(random, &nobody_gives);
-            let only_houses = |set: usize| set < 1 << houses;
-            let marks: Vec<u16> = (0..1 << places)
-                .map(|set| u16::from(only_houses(set)))
-                .collect();
+            let pool = with_some_weeks(random, &nobody_gives(places, houses));
+            let marks = marks_where(places, |set| set < 1 << houses);
             let expected = Ok(vec![0; 1 << places]);
             expect_best(random, &pool.value(), &marks, 1 << places, &expected);
         }
@@ -557,11 +508,11 @@ fn members_and_weeks_of_an_entry() {
         let mut marks = vec![0; 1 << places];
         for _ in 0..random.between(0, 9) {
             let set = [0; 3].map(|_| 1 << random.below(places));
-            marks[set[0] | set[1] | set[2]] = random_mark(random, 100);
+            marks[set[0] | set[1] | set[2]] = random_mark(random);
         }
         let marked: Vec<usize> = (1..1 << places).filter(|&set| marks[set] != 0).collect();
-        let best = filled_best(&pool, &marks);
-        let without_weeks = filled_best(&with_weeks(&pool, vec![0; places]), &marks);
+        let (best, _) = filled_best(&pool, &marks);
+        let (without_weeks, _) = filled_best(&with_weeks(&pool, vec![0; places]), &marks);
         for (set, &entry) in best.iter().enumerate() {
             let mut families = Vec::new();
             for_each_family(&pool, &marked, set, (0, 0), &mut |members, weeks| {
@@ -581,14 +532,6 @@ fn members_and_weeks_of_an_entry() {
     assert!(weeks_given_up > 200, "only {weeks_given_up}");
 }
 
-/// What the call fills, to be compared with another call.
-fn filled_best(pool: &Pool, marks: &[u16]) -> Vec<u32> {
-    let mut best = vec![u32::MAX; full_entries(pool)];
-    let answer = fill_best(&pool.value(), marks, &mut best);
-    assert_eq!(answer, Answer::accepted(best.len() as u64, 0), "{pool:?}");
-    best
-}
-
 /// "A house's weeks count nowhere"; equal weeks are held once for each member.
 #[test]
 fn weeks_of_houses_and_equal_weeks_in_the_best_table() {
@@ -598,13 +541,13 @@ fn weeks_of_houses_and_equal_weeks_in_the_best_table() {
             let pool = some_pool(random, places);
             let marks = random_marks(random, full_entries(&pool));
             let room = full_entries(&pool);
-            let expected = Ok(filled_best(&pool, &marks));
+            let expected = Ok(filled_best(&pool, &marks).0);
             let mut other = pool.clone();
             for house in 0..pool.houses {
                 other.weeks[house] = random.pick(&GOOD_WEEKS);
             }
             expect_best(random, &other.value(), &marks, room, &expected);
-            let none = filled_best(&with_weeks(&pool, vec![0; places]), &marks);
+            let (none, _) = filled_best(&with_weeks(&pool, vec![0; places]), &marks);
             for weeks in [1, 256, GREATEST_WEEKS] {
                 let held = |entry: &u32| entry + entry / 65_536 * u32::from(weeks);
                 let expected = Ok(none.iter().map(held).collect());
@@ -630,8 +573,7 @@ fn one_member_more_comes_before_any_weeks() {
         marks[long_waiting] = 1;
         marks[others] = 1;
         for houses in [0, 1] {
-            let nobody_gives = pool_with(places, houses, vec![Vec::new(); places]);
-            let pool = with_weeks(&nobody_gives, weeks.clone());
+            let pool = with_weeks(&nobody_gives(places, houses), weeks.clone());
             let expected = best_by_lowest_place(&pool, &marks);
             let members = (few + 2 - houses) as u32;
             assert_eq!(expected[(1 << places) - 1], members * 65_536);
@@ -644,14 +586,12 @@ fn one_member_more_comes_before_any_weeks() {
 #[test]
 fn the_greatest_entries() {
     let random = &mut Random::new(234);
-    let gives = vec![Vec::new(); MOST_PLACES];
     for houses in [0, 1, 13] {
-        let pool = pool_with(MOST_PLACES, houses, gives.clone());
-        let pool = with_weeks(&pool, vec![GREATEST_WEEKS; MOST_PLACES]);
+        let weeks = vec![GREATEST_WEEKS; MOST_PLACES];
+        let pool = with_weeks(&nobody_gives(MOST_PLACES, houses), weeks);
         let held = |set: usize| (set >> houses).count_ones() * (65_536 + 999);
         let expected: Vec<u32> = (0..1 << MOST_PLACES).map(held).collect();
-        let alone = |set: usize| u16::from(set.is_power_of_two());
-        let marks: Vec<u16> = (0..1 << MOST_PLACES).map(alone).collect();
+        let marks = marks_where(MOST_PLACES, usize::is_power_of_two);
         let room = wide_room(random, &pool);
         expect_best(random, &pool.value(), &marks, room, &Ok(expected));
     }

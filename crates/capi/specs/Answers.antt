@@ -1,6 +1,7 @@
 -- What the calls answer to C: an outcome as four numbers.
 use Rattle.std.specs.Prelude.{List, ℕ}
 use Rattle.pool.specs.declared.value.Pool.{Pool}
+use Rattle.tables.specs.declared.best.BestFilled.{BestFilled}
 use Rattle.pool.specs.Refusals.{Outcome, accepted, refused}
 use Rattle.capi.specs.declared.answer.Answer.{Answer}
 
@@ -21,10 +22,15 @@ pool_answer (refused number at) = refused_with number at
 abbrev pub pool_from : ℕ → ℕ → List ℕ → List ℕ → Pool
 pool_from places houses gives weeks = record { size = places; altruists = houses; gives = gives; weeks = weeks }
 
--- a count: the entries written, or the members served
+-- a count: the entries of the exchange table, or the members served
 abbrev pub count_answer : Outcome ℕ → Answer
 count_answer (accepted count) = accepted_with count 0
 count_answer (refused number at) = refused_with number at
+
+-- the best table: entries written, and parts tried
+abbrev pub best_answer : Outcome BestFilled → Answer
+best_answer (accepted f) = accepted_with f.entries f.tried
+best_answer (refused number at) = refused_with number at
 
 -- clearing: members served, and records written
 abbrev pub clear_answer : Outcome (ℕ × ℕ) → Answer

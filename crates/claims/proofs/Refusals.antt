@@ -20,6 +20,8 @@ use Rattle.reading.specs.Records.{length_tests, read_pool, pool_tests}
 use Rattle.reading.specs.computed.Pool.{pool_of}
 use Rattle.reading.specs.Fields.{pool_records}
 use Rattle.pool.specs.Value.{graph_of, pool_fits, test_pool}
+use Rattle.tables.specs.declared.best.BestFilled.{BestFilled}
+use Rattle.tables.proofs.BestCall.{told_all}
 use Rattle.tables.specs.Calls.{best_tests, best_outcome, best_left}
 use Rattle.exchanges.specs.ExchangesCall.{exchanges_tests, exchanges_outcome, exchanges_left}
 use Rattle.plans.specs.Check.{lists_in}
@@ -72,11 +74,11 @@ module _ (p : Pool) (l : Limits) (table : List ℕ) where
 module _ (p : Pool) (exchanges table : List ℕ) where
   pub best_refuses : {n at : ℕ} → (best_outcome p exchanges table ≡ refused n at) ↔ (FirstFails (best_tests p exchanges table) n × (at ≡ 0))
   unfolding best_outcome
-  best_refuses = alone_refused (2 ^ p.size) (best_tests p exchanges table) 0
+  best_refuses = alone_refused (told_all p exchanges table) (best_tests p exchanges table) 0
 
-  pub best_accepts : {k : ℕ} → (best_outcome p exchanges table ≡ accepted k) ↔ (Each Pass (best_tests p exchanges table) × (2 ^ p.size ≡ k))
+  pub best_accepts : {filled : BestFilled} → (best_outcome p exchanges table ≡ accepted filled) ↔ (Each Pass (best_tests p exchanges table) × (told_all p exchanges table ≡ filled))
   unfolding best_outcome
-  best_accepts = alone_accepted (2 ^ p.size) (best_tests p exchanges table) 0
+  best_accepts = alone_accepted (told_all p exchanges table) (best_tests p exchanges table) 0
 
   pub best_untouched : {n at : ℕ} → best_outcome p exchanges table ≡ refused n at → best_left p exchanges table ≡ table
   unfolding best_left

@@ -19,7 +19,8 @@ use Rattle.kep.specs.Table.{lowest_first, member_worth, served}
 use Rattle.kep.specs.computed.Table.{exchanges, ends_at, some, entry, marks, marked_parts, greatest_of, most, best}
 use Rattle.kep.specs.Plan.{insert, in_order, kind_of, record_of, records_of, record_form}
 use Rattle.plans.specs.Check.{listed, vertices_of}
-use Rattle.tables.specs.Calls.{set_worth}
+use Rattle.kep.specs.Trying.{down_from, falling_parts, tried_of, serves_all, tried, tried_over}
+use Rattle.tables.specs.Calls.{set_worth, best_tried, best_outcome}
 use Rattle.clearing.specs.computed.Cleared.{plan_of}
 use Rattle.report.specs.Text.{kind_word, digits, decimal, place_text, places_text, record_line, record_lines, plan_text, outcome_text, printed, whole_text, counted, text_of}
 
@@ -118,6 +119,8 @@ pub rows :
     × (best (set_worth (star 5)) (marks (graph_of (star 5)) 2 0) 7 ≡ 131077)
     × (test_pool (star 999) ≡ accepted (star 999))
     × (test_pool (star 1000) ≡ refused 6 0)
+    -- parts tried: A with nothing marked
+    × (best_outcome value_a (replicate 64 0) (replicate 64 0) ≡ accepted (record { entries = 64; tried = 664 }))
     -- empty, 3, 3
     × (best_served empty_pool 3 3 ≡ 0)
     -- grade 50, least 50: arc; least 51: none
@@ -154,6 +157,7 @@ unfolding
     takers_fit arcs_fit weeks_fit test_pool all elem distinct keep upto total tabulate cut set_of has set_where worth_of tested field_tests records_tested record_gives takers_of pool_of read_pool
     concat_map remove arrangements walk last_of is_cycle is_chain is_exchange turned_by turned head_of lowest_first exchanges ends_at some entry marks marked_parts
     greatest_of most best flat sublists before insert in_order kind_of record_of records_of record_form plans better pick answer placed pool_a value_a pool_b value_b star member plan best_served entry_of
+    down_from falling_parts tried_of serves_all tried tried_over best_tried best_outcome
     listed vertices_of kind_word digits decimal place_text places_text record_line record_lines plan_text outcome_text printed whole_text
 rows =
-    (refl, refl, refl, refl, refl, refl, refl, refl, refl, refl, refl, refl, refl, refl, refl, refl, refl, refl, refl, refl, refl, refl, refl, refl, refl, refl, refl, refl, refl, refl, refl, refl, refl, refl, refl, refl, refl, refl, refl, refl, refl)
+    (refl, refl, refl, refl, refl, refl, refl, refl, refl, refl, refl, refl, refl, refl, refl, refl, refl, refl, refl, refl, refl, refl, refl, refl, refl, refl, refl, refl, refl, refl, refl, refl, refl, refl, refl, refl, refl, refl, refl, refl, refl, refl)

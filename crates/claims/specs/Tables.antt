@@ -4,9 +4,9 @@ use Rattle.pool.specs.declared.value.Pool.{Pool}
 use Rattle.pool.specs.declared.limits.Limits.{Limits}
 use Rattle.kep.specs.Sets.{has, set_of, worth_of}
 use Rattle.kep.specs.Exchange.{is_exchange}
-use Rattle.kep.specs.Table.{CanEnd, member_worth, weeks_worth, per_member, MostHeld}
+use Rattle.kep.specs.Table.{CanEnd, weeks_worth, per_member, MostHeld}
 use Rattle.pool.specs.Value.{graph_of, weeks_in}
-use Rattle.tables.specs.Calls.{marked}
+use Rattle.tables.specs.Calls.{marked, members_held}
 
 -- An exchange table of the pool p under the limits l; `old` is what stood there before.
 pub record ExchangeTable (p : Pool) (l : Limits) (old table : List ℕ) : Type 0 where
@@ -21,11 +21,7 @@ pub record ExchangeTable (p : Pool) (l : Limits) (old table : List ℕ) : Type 0
   pub beyond : drop (2 ^ p.size) table ≡ drop (2 ^ p.size) old
   pub as_long : length table ≡ length old
 
--- the members in a set
-abbrev pub members_held : Pool → ℕ → ℕ
-members_held p s = worth_of (member_worth (graph_of p)) p.size s
-
--- the weeks that they have waited
+-- the weeks that the members of a set have waited
 abbrev pub weeks_held : Pool → ℕ → ℕ
 weeks_held p s = worth_of (weeks_worth (graph_of p) (weeks_in p)) p.size s
 

@@ -21,7 +21,7 @@ use Rattle.kep.specs.Table.{served, per_member, Family}
 use Rattle.kep.specs.computed.Table.{entry, marks, best, best_of, everything}
 use Rattle.clearing.specs.computed.Cleared.{plan_of, exchanges_of, bests_of}
 use Rattle.clearing.specs.inner.Taking.{TablesHold}
-use Rattle.kep.proofs.Tables.{get_d_tabulate, tabulate_below, written_front}
+use Rattle.kep.proofs.Tables.{written_at, tabulate_below, written_front}
 use Rattle.kep.proofs.Parts.{part_le}
 use Rattle.kep.proofs.BestTable.{best_attained, best_bound, best_worth}
 use Rattle.exchanges.proofs.ExchangesCall.{passes_all as exchanges_pass, leaves as exchanges_leave}
@@ -61,7 +61,7 @@ module _ (p : Pool) (l : Limits) (fits : T (pool_fits p)) where
     -- its marks are those of the pool
     marks_agree : (t : ℕ) → t < 2 ^ p.size → marked exchanges t ≡ marks (graph_of p) l.cycle l.chain t
     unfolding marks
-    marks_agree t b = ap (λ (x : ℕ). not (eqb x 0)) (ap (λ (xs : List ℕ). get_or xs t 0) filled ∙ get_d_tabulate (entry (graph_of p) l.cycle l.chain) (2 ^ p.size) t (drop (2 ^ p.size) table₀) b)
+    marks_agree t b = ap (λ (x : ℕ). not (eqb x 0)) (written_at (entry (graph_of p) l.cycle l.chain) (2 ^ p.size) table₀ filled t b)
 
     pub bests_agree : (s : ℕ) → s < 2 ^ p.size → best (set_worth p) (marked exchanges) s ≡ best_of (worth_in p) (graph_of p) l.cycle l.chain s
     bests_agree s b = best_agrees (set_worth p) (marked exchanges) (marks (graph_of p) l.cycle l.chain) s (λ t i. marks_agree t (omega (arith, part_le i)))
@@ -82,9 +82,7 @@ module _ (p : Pool) (l : Limits) (fits : T (pool_fits p)) where
   -- the last entry of the best table tells the members served
   module _ (table : List ℕ) {left : List ℕ} (filled : left ≡ bests_of p l table) where
     last_best : get_or left (2 ^ p.size - 1) 0 ≡ best_of (worth_in p) (graph_of p) l.cycle l.chain (everything (graph_of p))
-    last_best =
-        ap (λ (xs : List ℕ). get_or xs (2 ^ p.size - 1) 0) filled
-        ∙ get_d_tabulate (best_of (worth_in p) (graph_of p) l.cycle l.chain) (2 ^ p.size) (2 ^ p.size - 1) (drop (2 ^ p.size) table) (omega (arith, pow_pos p.size))
+    last_best = written_at (best_of (worth_in p) (graph_of p) l.cycle l.chain) (2 ^ p.size) table filled (2 ^ p.size - 1) (omega (arith, pow_pos p.size))
 
     pub last_served : get_or left (2 ^ p.size - 1) 0 / per_member ≡ served (graph_of p) (flat (plan_of p l))
     last_served =

@@ -174,7 +174,7 @@ module _ {s : Ways} {dead : List ℕ} {path u more : ℕ} (wide : s.free < 2 ^ 1
     not_here n ([], c) = n c
     not_here n (v ∷ ys, c) = no_next v c.0 (ys, c.1)
 
-    one_more : length dead ≡ 16384 → (T (has (ends_of s path) u) → ⊥) → DeadEnds F (kept_dead false dead path u)
+    one_more : s.free < length dead → (T (has (ends_of s path) u) → ⊥) → DeadEnds F (kept_dead false dead path u)
     one_more long n = record { sound = λ p x i l h c. go p x i l h c (ℕ_discrete p before) }
       where
         before : ℕ
@@ -198,7 +198,7 @@ module _ {s : Ways} {dead : List ℕ} {path u more : ℕ} (wide : s.free < 2 ^ 1
         go p x i l h c (no ne) = e.failed.sound p x i l (rw (get_or-set_other dead before p more_dead 0 ne) at h) c
 
     -- what is told and kept is right
-    module _ {bytes bytes₀ dead₀ dead' : List ℕ} {at : VertexSet} {told : Option VertexSet} (at_path : at.0 ≡ path) (long : length dead ≡ 16384) (same : bytes ≡ bytes₀) (untouched : (S : ℕ) → (Part path S → ⊥) → get_or dead S 0 ≡ get_or dead₀ S 0) where
+    module _ {bytes bytes₀ dead₀ dead' : List ℕ} {at : VertexSet} {told : Option VertexSet} (at_path : at.0 ≡ path) (long : s.free < length dead) (same : bytes ≡ bytes₀) (untouched : (S : ℕ) → (Part path S → ⊥) → get_or dead S 0 ≡ get_or dead₀ S 0) where
       pub ended : told ≡ (if has (ends_of s path) u then Some at else None) → dead' ≡ kept_dead (has (ends_of s path) u) dead path u
           → DeadEnds F dead' × (KeptBut path u dead₀ dead' × Sought F path u bytes₀ told bytes)
       unfolding set_of
@@ -219,7 +219,7 @@ module _ {s : Ways} {dead : List ℕ} {path u more : ℕ} (wide : s.free < 2 ^ 1
 
 -- ---- the loop: some vertices are left to try, and nothing is written yet
 pub record Trying (s : Ways) (dead₀ bytes₀ : List ℕ) (path u : ℕ) (dead bytes : List ℕ) (left : ℕ) : Type 0 where
-  pub long : length dead ≡ 16384
+  pub long : s.free < length dead
   pub untouched : (S : ℕ) → (Part path S → ⊥) → get_or dead S 0 ≡ get_or dead₀ S 0
   pub same_bytes : bytes ≡ bytes₀
   pub fits : left < 2 ^ 16
@@ -323,7 +323,7 @@ module _ {s : Ways} {dead₀ bytes₀ dead bytes : List ℕ} {path u left v : �
                 (ap (λ (l : List ℕ). v ∷ l) (rw (b, whole, take-length bytes, drop_of_length-le bytes {i = length bytes} (omega arith), append-nil)))
 
         -- it finds nothing: the others are left, and nothing is written
-        pub none_there : {dead' : List ℕ} {others : ℕ} → others ≡ without_vertex 16 left (lowest_below 16 left) → told ≡ None → length dead' ≡ 16384 → DeadEnds G dead' → KeptBut longer v dead dead'
+        pub none_there : {dead' : List ℕ} {others : ℕ} → others ≡ without_vertex 16 left (lowest_below 16 left) → told ≡ None → s.free < length dead' → DeadEnds G dead' → KeptBut longer v dead dead'
             → Trying s dead₀ bytes₀ path u dead' (put_mid 1 (length bytes - 1) bytes written) others
         none_there {dead'} {others} removed z long failed kept = go (rw longer_is at rest)
           where

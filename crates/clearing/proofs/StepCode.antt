@@ -96,8 +96,8 @@ module _ {p : Pool} {l : Limits} {exchanges best : List ℕ} (hold : TablesHold 
 -- ---- the search from the lowest free vertex on
 
 -- at first nothing has failed
-pub all_clean : {free : ℕ} → Clean free (replicate 16384 0)
-all_clean = record { none = λ S i l. zeros 16384 S }
+pub all_clean : (sets : ℕ) {free : ℕ} → Clean free (replicate sets 0)
+all_clean sets = record { none = λ S i l. zeros sets S }
   where
     zeros : (n i : ℕ) → ◌≡◌ {A = ℕ} (get_or (replicate n 0) i 0) 0
     zeros zero i = refl

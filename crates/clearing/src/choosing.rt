@@ -13,7 +13,8 @@ use sets::VertexSet;
 impl Choice<'_> {
     // Step by step, while something can be gained from the free vertices: an exchange is taken from the lowest on, or that vertex is
     // left out.
-    fn choose(&self, dead: &mut [u16; Pool::SETS], plan: &mut [u8]) -> usize
+    fn choose(&self, dead: &mut [u16], plan: &mut [u8]) -> usize
+        requires dead_room { 2 ^ self.now.pool.size ≤ length dead.old }
         requires clean { Clean (2 ^ self.now.pool.size - 1) dead.old }
         requires room { 16 * self.now.pool.size ≤ length plan.old }
         ensures records { result ≡ length (plan_of self.now.pool self.now.limits) }
@@ -59,5 +60,10 @@ pub(crate) fn write_plan(
         exchanges,
         best,
     };
-    choice.choose(&mut [0; Pool::SETS], plan)
+    // As what the sets offer in tables: of few vertices in a small array, since to empty the large one takes longer than to choose.
+    if pool.size < 9 {
+        choice.choose(&mut [0; 256], plan)
+    } else {
+        choice.choose(&mut [0; Pool::SETS], plan)
+    }
 }

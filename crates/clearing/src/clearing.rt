@@ -68,7 +68,7 @@ fn clear_accepted(
     ensures plan { plan.new ≡ plan_cleared limits (accepted pool) plan.old }
 {
     fill_exchanges(pool, limits, exchanges).unwrap();
-    let entries = fill_best(pool, exchanges, best).unwrap();
+    let entries = fill_best(pool, exchanges, best).unwrap().entries;
     Cleared {
         records: write_plan(pool, limits, exchanges, best, plan),
         served: (best[entries - 1] / MEMBER) as u8,

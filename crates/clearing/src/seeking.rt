@@ -4,7 +4,6 @@
 ghost use Rattle.std.specs.Prelude.{◌≡◌, ◌≤◌, ◌<◌, ◌^◌, T, length, if◌then◌else◌, Some, None};
 ghost use Rattle.kep.specs.Sets.{has, Part};
 
-use pool::Pool;
 use sets::VertexSet;
 
 // A path from the lowest free vertex on: the set of its vertices, and its last vertex.
@@ -58,8 +57,9 @@ impl Step<'_> {
     // but what failed. None where no vertex is left at which the path may end: a first vertex with few givers would else cost a
     // search of all paths.
     #[tactic(auto, unfolding(crate::specs::inner::Seeking::open_at))]
-    fn open_at(&self, dead: &[u16; Pool::SETS], path: Path, more: usize) -> VertexSet
-        requires { Part path.set.0 self.now.free.0 }
+    fn open_at(&self, dead: &[u16], path: Path, more: usize) -> VertexSet
+        requires inside { Part path.set.0 self.now.free.0 }
+        requires room { self.now.free.0 < length dead.now }
         ensures { result.0 ≡ open_at (ways_of self.now) dead.now path.set.0 path.last more }
     {
         if more == 0 {
@@ -74,8 +74,9 @@ impl Step<'_> {
     }
 
     // Nothing is left to go on to: tells the path's set where it may end, else keeps that it failed.
-    fn end_at(&self, dead: &mut [u16; Pool::SETS], path: Path) -> Option<VertexSet>
-        requires { path.set.0 ≤ self.now.free.0 }
+    fn end_at(&self, dead: &mut [u16], path: Path) -> Option<VertexSet>
+        requires inside { path.set.0 ≤ self.now.free.0 }
+        requires room { self.now.free.0 < length dead.old }
         ensures told { result ≡ (if has (ends_of (ways_of self.now) path.set.0) path.last then Some path.set else None) }
         ensures kept { dead.new ≡ kept_dead (has (ends_of (ways_of self.now) path.set.0) path.last) dead.old path.set.0 path.last }
     {
@@ -91,13 +92,9 @@ impl Step<'_> {
 
     // Seeks from the path's last vertex on. Where it finds an exchange it writes the vertices that follow, and tells the set of all. No
     // more vertices may follow than there are bytes.
-    pub(crate) fn seek(
-        &self,
-        dead: &mut [u16; Pool::SETS],
-        bytes: &mut [u8],
-        path: Path,
-    ) -> Option<VertexSet>
-        requires { Entering (ways_of self.now) dead.old path.set.0 path.last (length bytes.old) }
+    pub(crate) fn seek(&self, dead: &mut [u16], bytes: &mut [u8], path: Path) -> Option<VertexSet>
+        requires room { self.now.free.0 < length dead.old }
+        requires entering { Entering (ways_of self.now) dead.old path.set.0 path.last (length bytes.old) }
         ensures dead { DeadEnds (field_of (ways_of self.now)) dead.new }
         ensures kept { KeptBut path.set.0 path.last dead.old dead.new }
         ensures sought { Sought (field_of (ways_of self.now)) path.set.0 path.last bytes.old result bytes.new }

@@ -1,5 +1,5 @@
 // One step of choosing: the exchange taken from the lowest free vertex on, with its record.
-ghost use Rattle.std.specs.Prelude.{◌≡◌, ◌-◌, ◌<◌, ◌^◌, ltb, get_or};
+ghost use Rattle.std.specs.Prelude.{◌≡◌, ◌-◌, ◌<◌, ◌^◌, ltb, length, get_or};
 ghost use Rattle.kep.specs.inner.Lowest.{lowest};
 ghost use Rattle.pool.specs.Value.{graph_of};
 ghost use Rattle.clearing.specs.inner.Taking.{more_by, goal_by, Clean, pool_field, Stepped};
@@ -7,7 +7,6 @@ ghost use Rattle.clearing.specs.inner.Taking.{more_by, goal_by, Clean, pool_fiel
 use crate::choice::Choice;
 use crate::seeking::{Path, Step};
 use plans::PlanRecord;
-use pool::Pool;
 use sets::VertexSet;
 
 // An exchange that a step takes: its set and its record.
@@ -42,13 +41,10 @@ impl Choice<'_> {
 
     // Takes an exchange from the lowest free vertex on if there is one with which the best can be reached. What fails is kept by sets
     // that have the lowest free vertex, which is free in no later step, so those find nothing kept on their own sets.
-    pub(crate) fn take_exchange(
-        &self,
-        free: VertexSet,
-        dead: &mut [u16; Pool::SETS],
-    ) -> Option<Taken>
+    pub(crate) fn take_exchange(&self, free: VertexSet, dead: &mut [u16]) -> Option<Taken>
         requires some { 0 < free.0 }
         requires inside { free.0 < 2 ^ self.now.pool.size }
+        requires room { free.0 < length dead.old }
         requires clean { Clean free.0 dead.old }
         ensures clean { Clean (free.0 - 2 ^ lowest free.0) dead.new }
         ensures stepped { Stepped (graph_of self.now.pool) (pool_field self.now.pool self.now.exchanges.now self.now.best.now free.0) result }

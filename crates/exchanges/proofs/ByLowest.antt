@@ -74,7 +74,7 @@ module _ {l cap s : ℕ} (b : Begins l s) (fits : ones s ≤ cap) where
     further = omega (arith, pow_pos l);
     begins = begins_next b;
     few = omega (arith, ones_add s (suc l));
-    many = λ i m k c. absurd (omega (arith, remainder_apart l b.remainder c.remainder m));
+    many = λ i m k c. absurd (omega (arith, remainder_apart (suc l) (b.remainder ∙ sym c.remainder) m));
   }
 
   -- at the limit the lowest bit of the others is added
@@ -114,7 +114,7 @@ module _ {l cap set : ℕ} (e : set ≡ 2 ^ l + 2 ^ suc l) where
   second_set two = rw e (record { begins = begins_next (begins_alone l); more = omega (arith, pow_pos l); fits = omega (arith, ones_add (2 ^ l) (suc l), ones_alone l) })
 
   pub none_between : (i : ℕ) → 2 ^ l < i → i < set → Begins l i → cap < ones i
-  none_between i m k b = absurd (omega (arith, remainder_apart l (begins_alone l).remainder b.remainder m))
+  none_between i m k b = absurd (omega (arith, remainder_apart (suc l) ((begins_alone l).remainder ∙ sym b.remainder) m))
 
 -- as code finds it
 module _ {l cap s first : ℕ} (f : first ≡ 2 ^ l) (ok : Allowed l cap s) where
@@ -211,7 +211,7 @@ module _ (l n closing : ℕ) (most : Option ℕ) (d : List ℕ) where
       → Kept (s + 2 ^ suc l) (set t s (bit_and (get_or t s 0) kept))
   kept_more {t} {s} room small b c e =
       changed_store (s + 2 ^ suc l) c (omega arith) (small, b) (ap₂ bit_and (c.kept s (λ m _. omega arith)) e) (omega (arith, pow_pos l))
-      (λ i m k h. absurd (omega (arith, remainder_apart l b.remainder h.1.remainder m)))
+      (λ i m k h. absurd (omega (arith, remainder_apart (suc l) (b.remainder ∙ sym h.1.remainder) m)))
 
 -- what is kept of the ends of paths is the entry, where larger sets have none
 module _ {g : Graph} {lc lp l n : ℕ} {f : ℕ → ℕ} {d between after : List ℕ} {closing : ℕ} (closes : Closes g lc lp l closing)

@@ -1,17 +1,22 @@
--- Going through the nonempty parts of a set from the set itself down: from t to `bit_and (t - 1) s`.
+-- The nonempty parts of a set from the set itself down by number: from t to `bit_and (t - 1) s`.
+use mathlib.Core.Bool.{Bool}
 use mathlib.Core.List.Memᴰ
 use mathlib.Core.List.{List, [], ◌∷◌, Memᴰ}
-use mathlib.Core.Logic.{◌⊎◌, inl, inr, ◌↔◌}
-use mathlib.Core.Path.{◌≡◌, refl, ap}
+use mathlib.Core.Logic.{◌⊎◌, inl, inr, ⊎_elim, ◌↔◌}
+use mathlib.Core.Path.{◌≡◌, refl, ap, ◌∙◌}
 use Prim.Native.Nat.{◌-◌, ℕ, ◌<◌, ◌%◌, ◌/◌, ◌*◌, ◌+◌, min, ◌≤◌, zero, suc}
-use native.Mathlib.Nat.{le_refl, suc-sub-suc, sub-zero, eq-or-lt_of_le}
+use native.Mathlib.Nat.{le_refl, eq-or-lt_of_le}
 use native.Mathlib.Omega.{arith}
 use lib.Bits.{bit_and, and_le_l, and_step}
-use Rattle.kep.specs.Lists.{nil, cons, Pairwise}
+use lib.Dec.{T, eqb, eqb→eq}
+use lib.ListN.{length}
+use Rattle.kep.specs.Lists.{keep}
 use Rattle.kep.specs.Sets.{Part}
-use Rattle.kep.proofs.Each.{each_of}
+use Rattle.kep.specs.Trying.{down_from, falling_parts}
+use Rattle.kep.proofs.Tests.{is_true, is_false, eq→eqb}
+use Rattle.kep.proofs.Each.{keep_yes, keep_no, keep_in, keep_out, keep_length}
 use Rattle.kep.proofs.SetLaws.{odd, even, parity, Parity}
-use Rattle.kep.proofs.Parts.{and_part, part_and, part_half, part_low, part_refl, part_le}
+use Rattle.kep.proofs.Parts.{and_part, part_and, part_of_and, part_half, part_low, part_le}
 
 -- ---- the step: for a nonempty part t of s, `bit_and (t - 1) s` is the greatest part of s below t
 
@@ -46,95 +51,61 @@ step_greatest {t} {s} {u} h k l = go t t s u (le_refl t) h k l
         by_low (odd o o') below = omega (arith, step_odd h o)
         by_low (even o o') below = omega (arith, step_even t s (omega arith) o, below (omega arith), part_low k)
 
--- ---- the list of the parts met on the way down
+-- ---- the list of the nonempty parts of s, from a part t of s down
 
-down : ℕ → ℕ → ℕ → List ℕ
-down zero t s = []
-down (suc k) zero s = []
-down (suc k) (suc t) s = suc t ∷ down k (bit_and t s) s
+abbrev part : ℕ → ℕ → Bool
+part s u = eqb (bit_and u s) u
 
--- from t down by the step, as long as it is not empty: at most t numbers
-unfoldable pub parts_from : ℕ → ℕ → List ℕ
-unfolding down
-parts_from t s = down t t s
+abbrev pub parts_from : ℕ → ℕ → List ℕ
+parts_from t s = keep (λ u. eqb (bit_and u s) u) (down_from t)
 
--- the nonempty parts of s, from s down
-abbrev pub parts_down : ℕ → List ℕ
-parts_down s = parts_from s s
-
-down_enough : (j k t s : ℕ) → t ≤ j → t ≤ k → down j t s ≡ down k t s
-unfolding down
-down_enough zero zero t s p q = refl
-down_enough zero (suc k) zero s p q = refl
-down_enough zero (suc k) (suc t) s p q = absurd (omega arith)
-down_enough (suc j) zero zero s p q = refl
-down_enough (suc j) zero (suc t) s p q = absurd (omega arith)
-down_enough (suc j) (suc k) zero s p q = refl
-down_enough (suc j) (suc k) (suc t) s p q =
-    let le : bit_and t s ≤ t = and_le_l t s in
-    ap (λ (l : List ℕ). suc t ∷ l) (down_enough j k (bit_and t s) s (omega arith) (omega arith))
+-- numbers that fail the test are passed over
+keep_over : (p : ℕ → Bool) (j k : ℕ) → j ≤ k → ((x : ℕ) → j < x → x ≤ k → T (p x) → ⊥) → keep p (down_from k) ≡ keep p (down_from j)
+unfolding down_from
+keep_over p j zero l n = let e : j ≡ 0 = omega arith in rw e
+keep_over p j (suc k) l n = go (eq-or-lt_of_le l) (keep_over p j k)
+  where
+    go : (j ≡ suc k) ⊎ (j < suc k) → (j ≤ k → ((x : ℕ) → j < x → x ≤ k → T (p x) → ⊥) → keep p (down_from k) ≡ keep p (down_from j)) → keep p (down_from (suc k)) ≡ keep p (down_from j)
+    go (inl e) ih = rw e
+    go (inr h) ih = keep_no p (suc k) (down_from k) (is_false (p (suc k)) (n (suc k) h (omega arith))) ∙ ih (omega arith) (λ x b c. n x b (omega arith))
 
 pub from_none : (s : ℕ) → parts_from 0 s ≡ []
-unfolding parts_from
+unfolding keep down_from
 from_none s = refl
 
-pub from_step : (t s : ℕ) → 0 < t → parts_from t s ≡ t ∷ parts_from (bit_and (t - 1) s) s
-unfolding parts_from
-from_step zero s p = absurd (omega arith)
-from_step (suc t) s p =
-    let same : down t (bit_and t s) s ≡ down (bit_and t s) (bit_and t s) s = down_enough t (bit_and t s) (bit_and t s) s (and_le_l t s) (le_refl (bit_and t s)) in
-    rw (suc-sub-suc t 0, sub-zero t) (ap (λ (l : List ℕ). suc t ∷ l) same)
+pub from_step : (t : ℕ) {s : ℕ} → Part t s → 0 < t → parts_from t s ≡ t ∷ parts_from (bit_and (t - 1) s) s
+unfolding down_from
+from_step zero h p = absurd (omega arith)
+from_step (suc k) {s} h p =
+    let next = bit_and (suc k - 1) s in
+    keep_yes (part s) (suc k) (down_from k) (is_true (part s (suc k)) (eq→eqb (bit_and (suc k) s) (suc k) (part_and h)))
+    ∙ ap (λ (ts : List ℕ). suc k ∷ ts)
+    (keep_over (part s) next k (omega (arith, step_below (suc k) s p)) (λ x b c q. omega (arith, step_greatest h (part_of_and (eqb→eq (bit_and x s) x q)) (omega arith))))
 
--- induction along the way down
-pub from_ind : (s : ℕ) (P : ℕ → Type 0) → P 0 → ((t : ℕ) → 0 < t → Part t s → P (bit_and (t - 1) s) → P t) → (t : ℕ) → Part t s → P t
-from_ind s P base step t h = go t t (le_refl t) h
-  where
-    go : (n t : ℕ) → t ≤ n → Part t s → P t
-    go zero zero b h = base
-    go zero (suc t) b h = absurd (omega arith)
-    go (suc n) zero b h = base
-    go (suc n) (suc t) b h =
-        let l : bit_and (suc t - 1) s < suc t = step_below (suc t) s (omega arith) in
-        step (suc t) (omega arith) h (go n (bit_and (suc t - 1) s) (omega arith) (step_part (suc t) s))
+-- ---- which they are, and how many
 
--- the list from t holds the nonempty parts of s up to t, and no others
-pub in_from : (s : ℕ) {t : ℕ} → Part t s → (u : ℕ) → Memᴰ u (parts_from t s) → (0 < u) × (u ≤ t) × Part u s
-in_from s {t} h u = from_ind s (λ (t : ℕ). Memᴰ u (parts_from t s) → (0 < u) × (u ≤ t) × Part u s) none more t h
-  where
-    none : Memᴰ u (parts_from 0 s) → (0 < u) × (u ≤ 0) × Part u s
-    none m = absurd (Memᴰ.not-nil (rw (from_none s) at m))
+down_out : (k t : ℕ) → Memᴰ t (down_from k) → 0 < t
+unfolding down_from
+down_out zero t m = absurd (Memᴰ.not-nil m)
+down_out (suc k) t m = ⊎_elim (λ e. omega arith) (down_out k t) (Memᴰ.cases_cons m)
 
-    more : (t : ℕ) → 0 < t → Part t s → (Memᴰ u (parts_from (bit_and (t - 1) s) s) → (0 < u) × (u ≤ bit_and (t - 1) s) × Part u s)
-        → Memᴰ u (parts_from t s) → (0 < u) × (u ≤ t) × Part u s
-    more t p h ih m = cases (Memᴰ.cases_cons (rw (from_step t s p) at m))
-      where
-        cases : (u ≡ t) ⊎ Memᴰ u (parts_from (bit_and (t - 1) s) s) → (0 < u) × (u ≤ t) × Part u s
-        cases (inl e) = (omega arith, omega arith, rw e h)
-        cases (inr n) = let r = ih n in let l : bit_and (t - 1) s < t = step_below t s p in (r.0, omega arith, r.2)
+down_in : (k t : ℕ) → 0 < t → t ≤ k → Memᴰ t (down_from k)
+unfolding down_from
+down_in zero t p l = absurd (omega arith)
+down_in (suc k) t p l = ⊎_elim (λ e. Memᴰ.head e) (λ h. Memᴰ.tail (down_in k t p (omega arith))) (eq-or-lt_of_le l)
 
-pub from_has : (s : ℕ) {t : ℕ} → Part t s → {u : ℕ} → Part u s → 0 < u → u ≤ t → Memᴰ u (parts_from t s)
-from_has s {t} h {u} k q = from_ind s (λ (t : ℕ). u ≤ t → Memᴰ u (parts_from t s)) (λ l. absurd (omega arith)) more t h
-  where
-    more : (t : ℕ) → 0 < t → Part t s → (u ≤ bit_and (t - 1) s → Memᴰ u (parts_from (bit_and (t - 1) s) s)) → u ≤ t → Memᴰ u (parts_from t s)
-    more t p h ih l = rw (from_step t s p) (cases (eq-or-lt_of_le l))
-      where
-        cases : (u ≡ t) ⊎ (u < t) → Memᴰ u (t ∷ parts_from (bit_and (t - 1) s) s)
-        cases (inl e) = Memᴰ.head e
-        cases (inr l) = Memᴰ.tail (ih (step_greatest h k l))
+down_length : (k : ℕ) → length (down_from k) ≡ k
+unfolding down_from
+down_length zero = refl
+down_length (suc k) = ap suc (down_length k)
 
--- a number is in the list of the parts of s where it is a nonempty part of s
-pub in_parts : (s t : ℕ) → Memᴰ t (parts_down s) ↔ ((0 < t) × Part t s)
-in_parts s t = (
-  (λ m. let r = in_from s (part_refl s) t m in (r.0, r.2)),
-  (λ r. from_has s (part_refl s) r.1 r.0 (part_le r.1)),
+pub in_falling : (s t : ℕ) → Memᴰ t (falling_parts s) ↔ ((0 < t) × Part t s)
+unfolding falling_parts
+in_falling s t = (
+  (λ m. let (among, passes) = keep_out (part s) (down_from s) m in (down_out s t among, part_of_and (eqb→eq (bit_and t s) t passes))),
+  (λ r. keep_in (part s) (down_in s t r.0 (part_le r.1)) (eq→eqb (bit_and t s) t (part_and r.1))),
 )
 
--- each number of the list is above all that come after it: so no part comes twice
-pub parts_falling : (s : ℕ) → Pairwise (λ x y. y < x) (parts_down s)
-parts_falling s = from_ind s (λ (t : ℕ). Pairwise (λ x y. y < x) (parts_from t s)) (rw (from_none s) nil) more s (part_refl s)
-  where
-    more : (t : ℕ) → 0 < t → Part t s → Pairwise (λ x y. y < x) (parts_from (bit_and (t - 1) s) s) → Pairwise (λ x y. y < x) (parts_from t s)
-    more t p h ih = rw (from_step t s p) (cons (each_of (parts_from (bit_and (t - 1) s) s) under) ih)
-      where
-        under : (y : ℕ) → Memᴰ y (parts_from (bit_and (t - 1) s) s) → y < t
-        under y m = omega (arith, (in_from s (step_part t s) y m).1, step_below t s p)
+pub falling_length : (s : ℕ) → length (falling_parts s) ≤ s
+unfolding falling_parts
+falling_length s = omega (arith, keep_length (part s) (down_from s), down_length s)

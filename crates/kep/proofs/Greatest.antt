@@ -1,11 +1,11 @@
 -- The greatest value over a list.
 use mathlib.Core.List.Memᴰ
-use mathlib.Core.List.{List, Memᴰ, [], ◌∷◌}
+use mathlib.Core.List.{List, ◌++◌, Memᴰ, [], ◌∷◌}
 use mathlib.Core.Logic.{◌⊎◌, inl, inr}
-use mathlib.Core.Path.{◌≡◌, refl}
+use mathlib.Core.Path.{◌≡◌, refl, sym}
 use Prim.Native.Nat.{ℕ, ◌≤◌, max}
 use native.Mathlib.Decide.{dec_le}
-use native.Mathlib.Nat.{le-max_left, max-le, max-eq_left, le_antisymm}
+use native.Mathlib.Nat.{zero-max, le-max_left, max-le, max-eq_left}
 use native.Mathlib.Omega.{arith}
 use Rattle.kep.specs.computed.Table.{greatest_of}
 
@@ -39,10 +39,8 @@ greatest_attained f (y ∷ ys) = inr (go (dec_le (greatest_of f ys) (f y)) (grea
     go (no h) (inl e) = absurd (h (omega arith))
     go (no h) (inr (x, m, e)) = (x, Memᴰ.tail m, omega arith)
 
--- it depends only on the members and their values
-pub greatest_same : (f g : ℕ → ℕ) (xs ys : List ℕ) → ((x : ℕ) → Memᴰ x xs → Memᴰ x ys × (f x ≡ g x)) → ((x : ℕ) → Memᴰ x ys → Memᴰ x xs)
-    → greatest_of f xs ≡ greatest_of g ys
-greatest_same f g xs ys h k =
-    le_antisymm
-    (greatest_least f xs (greatest_of g ys) (λ x m. rw (h x m).1 (greatest_bound g ys x (h x m).0)))
-    (greatest_least g ys (greatest_of f xs) (λ x m. rw (← (h x (k x m)).1) (greatest_bound f xs x (k x m))))
+-- of lists put together
+pub greatest_append : (f : ℕ → ℕ) (xs ys : List ℕ) → greatest_of f (xs ++ ys) ≡ max (greatest_of f xs) (greatest_of f ys)
+unfolding greatest_of
+greatest_append f [] ys = sym (zero-max (greatest_of f ys))
+greatest_append f (x ∷ xs) ys = omega (arith, greatest_append f xs ys)

@@ -20,6 +20,7 @@ pub mod Worth
 pub mod Operations
 pub mod SetLoops
 pub mod LowestBit
+pub mod Twos
 pub mod Sifting
 -- exchanges and the exchange table
 pub mod Walks
@@ -36,7 +37,10 @@ pub mod Masking
 -- the best table
 pub mod Greatest
 pub mod BestTable
+pub mod Trying
+pub mod ByFours
 pub mod BestFilling
+pub mod Covered
 -- plans and the answer
 pub mod PlanLists
 pub mod Bytes

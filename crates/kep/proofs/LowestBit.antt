@@ -78,21 +78,25 @@ remainder_lowest {s} {l} e = record {
     low_part : (u : ℕ) → u < l → T (has s u) → T (has (2 ^ l) u)
     low_part u less h = rw (← alone, has_and s (2 ^ suc l - 1) u) (and_both (has s u) (has (2 ^ suc l - 1) u) h (has_full (suc l) u (omega arith)))
 
+-- no vertex below l
+none_below : (s l : ℕ) → ((u : ℕ) → T (has s u) → l ≤ u) → s % 2 ^ l ≡ 0
+none_below s l high = go (eq-zero-or-pos (s % 2 ^ l))
+  where
+    go : (s % 2 ^ l ≡ 0) ⊎ (0 < s % 2 ^ l) → s % 2 ^ l ≡ 0
+    go (inl z) = z
+    go (inr p) =
+        let (u, h) = some_bit (s % 2 ^ l) p in
+        let below : u < l = has_below l (s % 2 ^ l) u (mod-lt s (pow_pos l)) h in
+        let also : T (has s u) = and_left (has s u) (has (2 ^ l - 1) u) (rw (← has_and s (2 ^ l - 1) u, and_mask s l) h) in
+        absurd (omega (arith, high u also))
+
 pub lowest_remainder : {s l : ℕ} → IsLowest s l → s % 2 ^ suc l ≡ 2 ^ l
 unfolding has
 lowest_remainder {s} {l} low =
     let parts : s % 2 ^ (1 + l) ≡ s / 2 ^ l % 2 ^ 1 * 2 ^ l + s % 2 ^ l = mod-pow-add s 1 l in
     let bit : s / 2 ^ l % 2 ≡ 1 = eqb→eq (s / 2 ^ l % 2) 1 low.is_in in
     let name : 1 + l ≡ suc l = omega arith in
-    (rw name at parts) ∙ rw (bit, under (eq-zero-or-pos (s % 2 ^ l))) (omega arith)
-  where
-    under : (s % 2 ^ l ≡ 0) ⊎ (0 < s % 2 ^ l) → s % 2 ^ l ≡ 0
-    under (inl z) = z
-    under (inr p) =
-        let (u, h) = some_bit (s % 2 ^ l) p in
-        let below : u < l = has_below l (s % 2 ^ l) u (mod-lt s (pow_pos l)) h in
-        let also : T (has s u) = and_left (has s u) (has (2 ^ l - 1) u) (rw (← has_and s (2 ^ l - 1) u, and_mask s l) h) in
-        absurd (omega (arith, low.least u also))
+    (rw name at parts) ∙ rw (bit, none_below s l low.least) (omega arith)
 
 -- a higher vertex added, whether or not it was there
 pub remainder_more : (s l v : ℕ) → l < v → s % 2 ^ suc l ≡ 2 ^ l → (s + 2 ^ v) % 2 ^ suc l ≡ 2 ^ l
@@ -100,13 +104,19 @@ remainder_more s l v h e =
     let sum : v ≡ v - suc l + suc l = omega arith in
     rw (sum, pow-add 2 (v - suc l) (suc l), add-mul-mod_self_right s (2 ^ (v - suc l)) (2 ^ suc l)) e
 
--- two of them stand 2 ^ suc l apart or more
-pub remainder_apart : (l : ℕ) {s t : ℕ} → s % 2 ^ suc l ≡ 2 ^ l → t % 2 ^ suc l ≡ 2 ^ l → s < t → s + 2 ^ suc l ≤ t
-remainder_apart l {s} {t} e f less =
-    elim (dec_lt (s / 2 ^ suc l) (t / 2 ^ suc l)) [
-      | yes q ↦ omega (arith, split s (suc l), split t (suc l), suc-mul (s / 2 ^ suc l) (2 ^ suc l), mul-le-mul_right (2 ^ suc l) q)
-      | no n ↦ absurd (omega (arith, split s (suc l), split t (suc l), mul-le-mul_right {m = t / 2 ^ suc l} {n = s / 2 ^ suc l} (2 ^ suc l) (omega arith)))
+-- numbers of one remainder by 2 ^ l stand 2 ^ l apart or more
+pub remainder_apart : (l : ℕ) {s t : ℕ} → s % 2 ^ l ≡ t % 2 ^ l → s < t → s + 2 ^ l ≤ t
+remainder_apart l {s} {t} e less =
+    elim (dec_lt (s / 2 ^ l) (t / 2 ^ l)) [
+      | yes q ↦ omega (arith, split s l, split t l, suc-mul (s / 2 ^ l) (2 ^ l), mul-le-mul_right (2 ^ l) q)
+      | no n ↦ absurd (omega (arith, split s l, split t l, mul-le-mul_right {m = t / 2 ^ l} {n = s / 2 ^ l} (2 ^ l) (omega arith)))
     ]
+
+-- so do the parts of a set, l its lowest vertex
+pub parts_apart : {s t u : ℕ} → 0 < s → Part t s → Part u s → t < u → t + 2 ^ lowest s ≤ u
+parts_apart {s} {t} {u} some h k less =
+    let low = lowest_is s some in
+    remainder_apart (lowest s) (none_below t (lowest s) (λ v p. low.least v (h.within v p)) ∙ sym (none_below u (lowest s) (λ v p. low.least v (k.within v p)))) less
 
 -- ---- the jump: with its lowest bit added a set has no more vertices, and every number on the way has more
 

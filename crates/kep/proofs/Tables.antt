@@ -29,6 +29,14 @@ pub tabulate_store : (f : ℕ → ℕ) (k : ℕ) (t : List ℕ) {filled : List �
     → set filled k x ≡ tabulate f (k + 1) ++ drop (k + 1) t
 tabulate_store f k t h p q = rw (p, q) (tabulate_more f k t h)
 
+-- an entry that holds its value already
+pub tabulate_keep : (f : ℕ → ℕ) (k : ℕ) (t : List ℕ) → k < length t → get_or t k 0 ≡ f k → tabulate f k ++ drop k t ≡ tabulate f (k + 1) ++ drop (k + 1) t
+unfolding tabulate
+tabulate_keep f k t h e =
+    ap (λ (r : List ℕ). tabulate f k ++ r) (drop-cons t k 0 h ∙ ap (λ (x : ℕ). x ∷ drop (suc k) t) e)
+    ∙ sym (append_snoc (tabulate f k) (f k) (drop (suc k) t))
+    ∙ ap (λ (n : ℕ). tabulate f n ++ drop n t) (sym (add-one k))
+
 -- entry i of the table, whatever follows it
 pub get_d_tabulate : (f : ℕ → ℕ) (k i : ℕ) (rest : List ℕ) → i < k → get_or (tabulate f k ++ rest) i 0 ≡ f i
 unfolding tabulate
@@ -39,6 +47,10 @@ get_d_tabulate f (suc k) i rest h =
     go : (i < k → get_or (tabulate f k ++ f k ∷ rest) i 0 ≡ f i) → (i ≡ k) ⊎ (i < k) → get_or (tabulate f k ++ f k ∷ rest) i 0 ≡ f i
     go ih (inl e) = rw e (get_or_at (tabulate f k) (f k) rest 0 k (length_tabulate f k))
     go ih (inr l) = ih l
+
+-- of a table that was written
+pub written_at : (f : ℕ → ℕ) (k : ℕ) (table : List ℕ) {left : List ℕ} → left ≡ tabulate f k ++ drop k table → (i : ℕ) → i < k → get_or left i 0 ≡ f i
+written_at f k table e i h = ap (λ (l : List ℕ). get_or l i 0) e ∙ get_d_tabulate f k i (drop k table) h
 
 -- where nothing follows
 pub get_d_whole : (f : ℕ → ℕ) (k i : ℕ) → i < k → get_or (tabulate f k) i 0 ≡ f i

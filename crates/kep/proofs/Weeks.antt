@@ -16,7 +16,7 @@ use Rattle.kep.specs.Plan.{record_form, Best, Optimum}
 use Rattle.kep.specs.inner.Best.{BestBy}
 use Rattle.kep.proofs.Each.{each_map}
 use Rattle.kep.proofs.Worth.{list_worth}
-use Rattle.kep.proofs.BestTable.{best_attained, best_bound, family_worth}
+use Rattle.kep.proofs.BestTable.{best_attained, best_bound, best_unique, family_worth}
 use Rattle.kep.proofs.ExchangeFacts.{exchange_below}
 use Rattle.kep.proofs.Bytes.{before_antisym}
 use Rattle.kep.proofs.Canonical.{flat_each}
@@ -128,6 +128,13 @@ module _ (g : Graph) (weeks : ℕ → ℕ) where
               most_members = λ {ts = us} h. high_le per_member (total members ts) (total members us) (total weeks_of us) below (most us h);
               most_weeks = λ {ts = us} h d. low_le per_member (total weeks_of ts) (total weeks_of us) d (most us h);
             }
+
+    -- so its members are the most that any family holds
+    pub members_told : (m : ℕ → Bool) (s : ℕ) → best (worth_of (member_worth g) g.size) m s ≡ best (worth_of (member_weeks g weeks) g.size) m s / per_member
+    members_told m s =
+        let held = weeks_held_lem m s in
+        let (ts, family, members, _) = held.attained in
+        sym (best_unique (worth_of (member_worth g) g.size) m family (λ us f. omega (arith, held.most_members f, members))) ∙ members
 
     module _ (lc lp : ℕ) where
       -- the weeks of a legal plan stay below what a member counts

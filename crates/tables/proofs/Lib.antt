@@ -1,2 +1,4 @@
 pub mod BestCode
 pub mod BestCall
+pub mod FillingCode
+pub mod PartsCode

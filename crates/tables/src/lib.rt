@@ -4,7 +4,10 @@
 #![tactic(auto)]
 
 mod best;
+mod filling;
+mod fours;
+mod parts;
 mod worths;
 
-pub use best::fill_best;
+pub use best::{BestFilled, fill_best};
 pub use worths::MEMBER;

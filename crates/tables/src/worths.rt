@@ -1,6 +1,6 @@
 // What vertices and sets of them are worth.
-ghost use Rattle.std.specs.Prelude.{◌≡◌, ◌+◌, ◌^◌, ◌≤◌, ◌<◌, T, length};
-ghost use Rattle.kep.specs.Lists.{tabulate, written_to};
+ghost use Rattle.std.specs.Prelude.{◌≡◌, ℕ, ◌+◌, ◌^◌, ◌≤◌, ◌<◌, T, length, get_or};
+ghost use Rattle.kep.specs.Lists.{tabulate};
 ghost use Rattle.kep.specs.Table.{per_member};
 ghost use Rattle.kep.specs.inner.BestFilling.{Worths, worth_by};
 ghost use Rattle.pool.specs.Value.{pool_fits};
@@ -11,12 +11,19 @@ use pool::Pool;
 // What a member is worth beside the weeks that it has waited: more than all weeks of a pool.
 pub const MEMBER: u32 = 65536;
 
-// The worth of every vertex, so little that the worth of a set fits 32 bits.
+// More than any set is worth, 2 to the 30: it rides on what a marked set offers, so that one sum tells of a part whether it is marked and
+// what it comes to.
+pub(crate) const MARK: u32 = 1073741824;
+
+// The worth of every vertex, so little that the worth of a set is below the mark.
 // Fixed memory: an array for as many vertices as a pool has at most. The tables are lent beside it: as fields, every contract would have to say that the others stay, in place of that there is room.
 #[derive(Drop)]
 pub(crate) struct VertexWorths {
     pub size: u8,
     pub each: [u32; 14],
+    // The number of sets of vertices, each with its entry: worked out once, so that loops over sets only compare.
+    sets: usize,
+    ghost counted: { sets ≡ 2 ^ size },
     ghost small: { Worths size each },
 }
 
@@ -30,25 +37,39 @@ impl VertexWorths {
         VertexWorths {
             size: pool.size,
             each: vertex_worths(pool),
+            sets: 1usize << pool.size,
         }
     }
 
-    // The number of sets of vertices. As `Filling::sets` in exchanges.
-    pub(crate) fn entries(&self) -> usize
+    // As `Filling::sets` in exchanges.
+    pub(crate) fn sets(&self) -> usize
         ensures { result ≡ 2 ^ self.now.size }
     {
-        1usize << self.size
+        self.sets
     }
 
-    // The worth of every set, by that of the set without its lowest vertex; sets are numbers, the places of their entries.
+    // The worth of every set; sets are numbers, the places of their entries. All beyond them may be anything.
     pub(crate) fn fill_worths(&self, table: &mut [u32])
         requires { 2 ^ self.now.size ≤ length table.old }
-        ensures { table.new ≡ written_to (worth_by self.now.each self.now.size) (2 ^ self.now.size) table.old }
+        ensures { (s : ℕ) → s < 2 ^ self.now.size → get_or table.new s 0 ≡ worth_by self.now.each self.now.size s }
     {
         table[0] = 0;
-        for s in 1..self.entries() {
-            let v = s.trailing_zeros() as usize;
-            table[s] = table[(s - 1) & s] + self.each[v];
+        for v in 0..usize::from(self.size) {
+            self.add_vertex(v, table);
+        }
+    }
+
+    // The sets of the vertices below one come once more, with that one.
+    fn add_vertex(&self, v: usize, table: &mut [u32])
+        requires in_pool { v < self.now.size }
+        requires room { 2 ^ self.now.size ≤ length table.old }
+        requires below { (s : ℕ) → s < 2 ^ v → get_or table.old s 0 ≡ worth_by self.now.each self.now.size s }
+        ensures { (s : ℕ) → s < 2 ^ (v + 1) → get_or table.new s 0 ≡ worth_by self.now.each self.now.size s }
+    {
+        let sets = 1usize << v;
+        let worth = self.each[v];
+        for s in 0..sets {
+            table[sets + s] = table[s] + worth;
         }
     }
 }

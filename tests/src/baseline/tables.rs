@@ -1,5 +1,5 @@
 //! Filling the exchange table and the best table. With the bounds of each index tested
-//! the exchange table takes 1.13 times as long, the best table 1.01 to 1.06 times.
+//! the exchange table takes 1.13 times as long, the best table 1.1 to 1.2 times.
 
 use super::pool::{givers_of, test_limits, test_value};
 use crate::layout::MOST_PLACES;
@@ -7,7 +7,7 @@ use crate::pools::PoolValue;
 use crate::refusal::{refuse, Refusal};
 
 /// What a member is worth beside its weeks, whose sum is always below this.
-const MEMBER_WORTH: u32 = 65_536;
+pub const MEMBER_WORTH: u32 = 65_536;
 /// A marked set is worth this, its members and their weeks, any other 0: so a sum of a
 /// worth and a best entry counts exactly if it is not below this.
 pub const MARK: u32 = 1 << 31;
@@ -28,20 +28,26 @@ pub fn fill_exchanges(
     Ok(entries)
 }
 
-/// Leaves in `worth`, which is as long as a best table, what each set is worth.
+/// Leaves in `worth`, which is as long as a best table, what each set is worth. Returns the
+/// entries written and the parts tried.
 pub fn fill_best(
     pool: &PoolValue,
     exchanges: &[u16],
     worth: &mut [u32],
     best: &mut [u32],
-) -> Result<usize, Refusal> {
-    test_value(pool)?;
-    let entries = entries_needed(pool, exchanges.len(), 8)?;
-    entries_needed(pool, best.len(), 9)?;
+) -> Result<(usize, u64), Refusal> {
+    let entries = test_best(pool, exchanges, best)?;
     let worth = &mut worth[..entries];
-    fill_worth(pool, &exchanges[..entries], worth);
-    fill_greatest(worth, &mut best[..entries]);
-    Ok(entries)
+    fill_held(pool, MARK, worth);
+    let tried = fill_greatest(pool, &exchanges[..entries], worth, &mut best[..entries]);
+    Ok((entries, tried))
+}
+
+/// What is tested before the best table is filled; returns the entries.
+pub fn test_best(pool: &PoolValue, exchanges: &[u16], best: &[u32]) -> Result<usize, Refusal> {
+    test_value(pool)?;
+    entries_needed(pool, exchanges.len(), 8)?;
+    entries_needed(pool, best.len(), 9)
 }
 
 pub fn entries_needed(pool: &PoolValue, lent: usize, number: u64) -> Result<usize, Refusal> {
@@ -98,10 +104,10 @@ fn keep_exchanges(pool: &PoolValue, givers: &[u16; MOST_PLACES], table: &mut [u1
     }
 }
 
-/// Each place doubles the sets: those below it come once more with it. Then those that are
-/// not marked become 0.
-fn fill_worth(pool: &PoolValue, exchanges: &[u16], worth: &mut [u32]) {
-    worth[0] = MARK;
+/// The members and weeks of each set above those of the empty one. Each place doubles the sets:
+/// those below it come once more with it.
+pub fn fill_held(pool: &PoolValue, by_none: u32, held: &mut [u32]) {
+    held[0] = by_none;
     for place in 0..usize::from(pool.places) {
         let house = place < usize::from(pool.houses);
         let more = if house {
@@ -109,59 +115,79 @@ fn fill_worth(pool: &PoolValue, exchanges: &[u16], worth: &mut [u32]) {
         } else {
             MEMBER_WORTH + u32::from(pool.weeks[place])
         };
-        let (without, with) = worth[..2 << place].split_at_mut(1 << place);
+        let (without, with) = held[..2 << place].split_at_mut(1 << place);
         for (entry, &below) in with.iter_mut().zip(&*without) {
             *entry = below + more;
         }
     }
-    for (entry, &ends) in worth.iter_mut().zip(exchanges) {
-        *entry = if ends != 0 { *entry } else { 0 };
-    }
-    worth[0] = 0;
 }
 
-/// The table is cleared first because the empty part, worth 0, reads the very entry
-/// that is to be written.
-fn fill_greatest(worth: &[u32], best: &mut [u32]) {
+/// Returns the parts tried. `worth` comes with every set as if it were marked; each that is not
+/// becomes 0 before a larger one reads it. The table is cleared first because the empty part,
+/// worth 0, reads the very entry that is to be written, and because sets without members try
+/// nothing.
+fn fill_greatest(pool: &PoolValue, exchanges: &[u16], worth: &mut [u32], best: &mut [u32]) -> u64 {
+    let first_with_member = 1 << pool.houses;
+    for s in 0..first_with_member {
+        worth[s] = if s != 0 && exchanges[s] != 0 { MARK } else { 0 };
+    }
     best.fill(0);
-    for s in 1..best.len() {
-        let greatest = if s.is_power_of_two() {
-            worth[s]
+    let mut tried = 0;
+    for s in first_with_member..best.len() {
+        let all = worth[s];
+        let (greatest, of_set) = if exchanges[s] != 0 {
+            (all, 1)
         } else {
-            greatest_of_parts(worth, best, s)
+            worth[s] = 0;
+            greatest_of_parts(worth, best, s, all)
         };
         best[s] = greatest.saturating_sub(MARK);
+        tried += of_set;
     }
+    tried
 }
 
-/// Parts go by fours, with and without the two lowest places, so that no load waits
-/// for another. Not inlined, and with two greatest sums kept and not four, so that the
-/// loop has all registers.
+/// The greatest sum, and the parts tried until one reaches `all`, what the whole set is worth if
+/// marked. That is where every member is served: neither a part nor an entry of the rest holds
+/// more than its own members and their weeks, so a sum of `all` has each member, and a marked
+/// part that serves each has all weeks too.
+///
+/// Parts go by fours, with and without the two lowest places, so that no load waits for another;
+/// that is their falling order. The last group has the empty part, which is worth 0 and not
+/// counted. Not inlined, so that the loop has all registers.
 #[inline(never)]
-fn greatest_of_parts(worth: &[u32], best: &[u32], s: usize) -> u32 {
+fn greatest_of_parts(worth: &[u32], best: &[u32], s: usize, all: u32) -> (u32, u64) {
     let upper = s & (s - 1);
+    if upper == 0 {
+        return (0, 1);
+    }
     let rest = upper & (upper - 1);
     let (a, b) = (s ^ upper, upper ^ rest);
     let (worth_a, worth_b, worth_ab) = (&worth[a..], &worth[b..], &worth[a + b..]);
     let (best_a, best_b, best_ab) = (&best[a..], &best[b..], &best[a + b..]);
-    let mut greatest = [0; 2];
-    let mut t = 0;
+    let (mut t, mut greatest, mut before) = (rest, 0, 0);
     loop {
         let u = rest ^ t;
         // SAFETY: t and u are parts of s without a and b, so with them they are parts
         // of s, and s is below the length of both tables.
-        unsafe {
-            let with_ab = worth_ab.get_unchecked(t) + best.get_unchecked(u);
-            let with_b = worth_b.get_unchecked(t) + best_a.get_unchecked(u);
-            greatest[0] = greatest[0].max(with_ab.max(with_b));
-            let with_a = worth_a.get_unchecked(t) + best_b.get_unchecked(u);
-            let without = worth.get_unchecked(t) + best_ab.get_unchecked(u);
-            greatest[1] = greatest[1].max(with_a.max(without));
+        let sums = unsafe {
+            [
+                worth_ab.get_unchecked(t) + best.get_unchecked(u),
+                worth_b.get_unchecked(t) + best_a.get_unchecked(u),
+                worth_a.get_unchecked(t) + best_b.get_unchecked(u),
+                worth.get_unchecked(t) + best_ab.get_unchecked(u),
+            ]
+        };
+        greatest = sums[0].max(sums[1]).max(sums[2].max(sums[3])).max(greatest);
+        if greatest == all {
+            let at = sums.iter().position(|&sum| sum == all).unwrap_or(0);
+            return (greatest, before + 1 + at as u64);
         }
-        t = next_part(t, rest);
+        before += 4;
         if t == 0 {
-            return greatest[0].max(greatest[1]);
+            return (greatest, before - 1);
         }
+        t = (t - 1) & rest;
     }
 }
 

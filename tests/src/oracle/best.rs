@@ -6,10 +6,15 @@ use super::pool::{places_of, Pool};
 use crate::pools::PoolValue;
 use crate::refusal::{refuse, Refusal};
 
-/// "Takes as marked every set with a nonzero entry"; only nonempty ones count.
+/// "Takes as marked every set with a nonzero entry."
+pub fn is_marked(exchanges: &[u16], set: usize) -> bool {
+    exchanges[set] != 0
+}
+
+/// Only nonempty ones count.
 fn marked_sets(pool: &Pool, exchanges: &[u16]) -> Vec<Vec<usize>> {
     let sets = 1..1 << pool.places;
-    let marked = sets.filter(|&set: &usize| exchanges[set] != 0);
+    let marked = sets.filter(|&set| is_marked(exchanges, set));
     marked.map(places_of).collect()
 }
 

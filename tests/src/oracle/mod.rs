@@ -7,3 +7,4 @@ pub mod held;
 pub mod plan;
 pub mod pool;
 pub mod set;
+pub mod tried;

@@ -17,7 +17,8 @@ use Rattle.pool.proofs.ValueLaws.{entries_few}
 use Rattle.tables.specs.Calls.{best_outcome, best_left}
 use Rattle.exchanges.specs.ExchangesCall.{exchanges_outcome, exchanges_left}
 use Rattle.exchanges.proofs.ExchangesCall.{passes_all as exchanges_pass, leaves as exchanges_leave}
-use Rattle.tables.proofs.BestCall.{accepted_all as best_accepted}
+use Rattle.tables.specs.declared.best.BestFilled.{BestFilled}
+use Rattle.tables.proofs.BestCall.{told_all, accepted_all as best_accepted}
 use Rattle.clearing.specs.Clearing.{clearable_value}
 use Rattle.clearing.specs.computed.Cleared.{plan_of, exchanges_of, bests_of}
 use Rattle.clearing.specs.inner.Taking.{TablesHold}
@@ -38,12 +39,12 @@ module _ {p : Pool} {l : Limits} {exchanges best plan : List ℕ} (t : Passed p 
     exchanges_are : filled ≡ exchanges_of p l exchanges
     exchanges_are = exchanges_filled p l t.fits exchanges t.within t.exchanges_long first
 
-    best_told : {r : Result ℕ Refusal} → outcome r ≡ best_outcome p filled best → r ≡ Ok (2 ^ p.size)
+    best_told : {r : Result BestFilled Refusal} → outcome r ≡ best_outcome p filled best → r ≡ Ok (told_all p filled best)
     best_told e = accepts _ (e ∙ sym (best_accepted p filled best t.fits (omega (arith, t.exchanges_long)) t.best_long).0)
 
     -- the entries, as that call tells them
-    entries_told : {r : Result ℕ Refusal} {k : ℕ} → outcome r ≡ best_outcome p filled best → r ≡ Ok k → k ≡ 2 ^ p.size
-    entries_told {k = k} e f = let told : ◌≡◌ {A = Result ℕ Refusal} (Ok k) (Ok (2 ^ p.size)) = sym f ∙ best_told e in cc
+    entries_told : {r : Result BestFilled Refusal} {f : BestFilled} → outcome r ≡ best_outcome p filled best → r ≡ Ok f → f.entries ≡ 2 ^ p.size
+    entries_told {f = f} e g = let told : ◌≡◌ {A = Result BestFilled Refusal} (Ok f) (Ok (told_all p filled best)) = sym g ∙ best_told e in cc
 
     module _ {bests : List ℕ} (second : bests ≡ best_left p filled best) where
       bests_are : bests ≡ bests_of p l best

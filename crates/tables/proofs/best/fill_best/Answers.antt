@@ -28,15 +28,14 @@ returns-then-table-entries c =
     let told = table_short p c.args.exchanges.now c.args.table.now fits (omega (arith, entries_are p fits)) (omega (arith, entries_are p fits)) in
     rw c.into-then-table-entries.ensures record { outcome = told.0; left = told.1 }
 
-pub new-worths-requires : goal.new-worths-requires
-new-worths-requires c = fitting_pool c.in_ok-test.ensures
+pub new-requires : goal.new-requires
+new-requires c = fitting_pool c.in_ok-test.ensures
 
 pub returns : goal.returns
 returns c =
     let p = c.args.pool in
     let fits = fitting_pool c.in_ok-test.ensures in
     let entries = entries_are p fits in
-    let size = c.new-worths.ensures.size in
-    let left = rw size at c.fill_best.ensures in
-    let told = filled p c.args.exchanges.now c.args.table.now fits (omega (arith, entries)) (omega (arith, entries)) (rw size at c.entries.ensures) c.new-worths.ensures.each left in
+    let size = c.new.ensures.size in
+    let told = filled p c.args.exchanges.now c.args.table.now fits (omega (arith, entries)) (omega (arith, entries)) entries c.new.ensures.each (rw size at c.fill_best-tried.ensures.left) (rw size at c.fill_best-tried.ensures.tried) in
     record { outcome = told.0; left = told.1 }

@@ -24,7 +24,10 @@ pub seek-requires : goal.seek-requires
 seek-requires c =
     let r = c.requires in
     let k = c.args.self.now.choosing in
-    starts k r.some r.inside c.lowest-first.ensures c.goal_from.ensures c.with.ensures (part_long k r.some r.inside c.lowest-first.ensures c.more_from-end.ensures) r.clean
+    record {
+      room = r.room;
+      entering = starts k r.some r.inside c.lowest-first.ensures c.goal_from.ensures c.with.ensures (part_long k r.some r.inside c.lowest-first.ensures c.more_from-end.ensures) r.clean;
+    }
 
 pub returns-in_err-set : goal.returns-in_err-set
 returns-in_err-set c =

@@ -12,12 +12,12 @@ use Rattle.clearing.proofs.seeking.Step.+seek.Goals as goal
 pub loop-v-init : goal.loop-v-init
 loop-v-init t c =
     record {
-      long = c.told-dead;
+      long = c.requires.room;
       untouched = λ S n. refl;
       same_bytes = refl;
       fits = omega arith;
-      entering = c.requires;
-      opens = opens c.args.self.now.few c.requires c.open_at-left.ensures;
+      entering = c.requires.entering;
+      opens = opens c.args.self.now.few c.requires.entering c.open_at-left.ensures;
     }
 
 pub slice_bounds-seek-count : goal.slice_bounds-seek-count
@@ -32,7 +32,7 @@ seek-requires t c =
     let inv = c.loop-v.invariant in
     let tells = c.take_lowest.ensures.told in
     let put = c.with.ensures in
-    (omega (arith, deeper_falls few inv tells c.in-Some.is put), deeper few inv tells c.in-Some.is put (search rules))
+    (omega (arith, deeper_falls few inv tells c.in-Some.is put), (omega arith, deeper few inv tells c.in-Some.is put (search rules)))
 
 pub bounds-bytes-0 : goal.bounds-bytes-0
 bounds-bytes-0 t c =
@@ -56,10 +56,10 @@ pub loop-v-preserved : goal.loop-v-preserved
 loop-v-preserved t c =
     let e = c.seek.ensures in
     let taken = c.take_lowest.ensures in
-    none_there c.args.self.now.few c.loop-v.invariant taken.told c.in-Some.is c.with.ensures e.sought taken.left c.in_default-seek.is c.seek.array_long e.dead e.kept
+    none_there c.args.self.now.few c.loop-v.invariant taken.told c.in-Some.is c.with.ensures e.sought taken.left c.in_default-seek.is (omega arith) e.dead e.kept
 
 pub end_at-requires : goal.end_at-requires
-end_at-requires t c = part_le c.requires.part
+end_at-requires t c = record { inside = part_le c.requires.entering.part; room = omega arith }
 
 pub invariant_of-longer : goal.invariant_of-longer
 invariant_of-longer t c =

@@ -1,9 +1,9 @@
 use mathlib.Core.Path.{◌≡◌}
-use Rattle.kep.specs.Lists.{written_to}
+use Prim.Native.Nat.{ℕ, ◌^◌, ◌<◌}
+use lib.ListN.{get_or}
 use Rattle.kep.specs.inner.BestFilling.{worth_by}
 use Rattle.tables.proofs.worths.VertexWorths.fill_worths.Given as goal
 
--- the worths of the sets below s are written
-abbrev pub invariant-loop-s : goal.invariant-loop-s
-invariant-loop-s l =
-    l.table ≡ written_to (worth_by l.self.each l.self.size) l.s l.initial.table
+-- the sets of the vertices below v have theirs
+abbrev pub invariant-loop-v : goal.invariant-loop-v
+invariant-loop-v l = (t : ℕ) → t < 2 ^ l.v → get_or l.table t 0 ≡ worth_by l.self.each l.self.size t
