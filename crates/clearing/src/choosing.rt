@@ -60,9 +60,8 @@ pub(crate) fn write_plan(
         exchanges,
         best,
     };
-    // As what the sets offer in tables: of few vertices in a small array, since to empty the large one takes longer than to choose.
-    if pool.size < 9 {
-        choice.choose(&mut [0; 256], plan)
+    if pool.size <= Pool::FEW {
+        choice.choose(&mut [0; Pool::FEW_SETS], plan)
     } else {
         choice.choose(&mut [0; Pool::SETS], plan)
     }

@@ -2,10 +2,9 @@
 -- with b, with a, and t alone.
 use mathlib.Core.Bool.{Bool, true, false}
 use mathlib.Core.List.{List, [], ◌∷◌, ◌++◌}
-use mathlib.Core.Logic.{⊎_elim}
 use mathlib.Core.Path.{◌≡◌, refl, sym, ap, ◌∙◌}
 use Prim.Native.Nat.{ℕ, suc, min, max, ◌+◌, ◌-◌, ◌≤◌, ◌<◌}
-use native.Mathlib.Nat.{eq-or-lt_of_le}
+use native.Mathlib.Numerals.{lt_of_le_of_ne}
 use native.Mathlib.Omega.{arith}
 use lib.Bits.{bit_and}
 use lib.Dec.{eqb}
@@ -43,9 +42,6 @@ place_three all c d e g = go (eqb c all) (eqb d all) (eqb e all) (eqb g all)
     go false false true l = refl
     go false false false true = refl
     go false false false false = refl
-
-lt_of : {x y : ℕ} → x ≤ y → (x ≡ y → ⊥) → x < y
-lt_of l n = ⊎_elim (λ e. absurd (n e)) (λ h. h) (eq-or-lt_of_le l)
 
 module _ {offers table : List ℕ} {all s a b : ℕ} (can : CanTry offers table all s) (l : TwoAside s a b) where
   -- what a part brings
@@ -100,7 +96,7 @@ module _ {offers table : List ℕ} {all s a b : ℕ} (can : CanTry offers table 
         -- none of them ends the trying
         pub fours_next : (next ≡ all → ⊥) → Trying (looked offers table s) all s (parts_from (b + (bit_and (t - 1) (s - a - b) + a)) s) next (before + 4)
         fours_next other =
-            let less : next < all = lt_of (omega (arith, greatest_four, four_le, now.under)) other in
+            let less : next < all = lt_of_le_of_ne (omega (arith, greatest_four, four_le, now.under)) other in
             trying_over f all four behind (here p) next (ap (λ (x : ℕ). x - mark) greatest_four) less (omega (arith, greatest_four)) refl
 
         -- one of them does

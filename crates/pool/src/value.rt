@@ -27,6 +27,12 @@ impl Pool {
     // How many sets the places of the largest pool have.
     pub const SETS: usize = 1 << 14;
 
+    // Few places, and how many sets they have at most. What a call keeps for each set is kept in a small array for so few: to empty the large one
+    // takes longer than such a pool.
+    pub const FEW: u8 = 8;
+
+    pub const FEW_SETS: usize = 1 << 8;
+
     // The pool with no place.
     pub fn empty() -> Pool
         ensures { result ≡ empty_pool }

@@ -11,16 +11,15 @@ use crate::worths::{MARK, VertexWorths};
 use pool::Pool;
 
 impl VertexWorths {
-    // The entries by the worths of the vertices, and the parts tried. What the sets offer is kept in an array of this call: of few
-    // vertices in a small one, since to empty the large one takes as long as to fill their table.
+    // The entries by the worths of the vertices, and the parts tried. What the sets offer is kept in an array of this call.
     pub(crate) fn fill_best(&self, exchanges: &[u16], table: &mut [u32]) -> usize
         requires exchanges_long { 2 ^ self.now.size ≤ length exchanges.now }
         requires table_long { 2 ^ self.now.size ≤ length table.old }
         ensures left { table.new ≡ written_to (best (worth_by self.now.each self.now.size) (marked exchanges.now)) (2 ^ self.now.size) table.old }
         ensures tried { let v = worth_by self.now.each self.now.size in let m = marked exchanges.now in result ≡ tried_over v (best v m) m (2 ^ self.now.size) }
     {
-        if self.size < 9 {
-            self.fill_best_by::<256>(exchanges, table)
+        if self.size <= Pool::FEW {
+            self.fill_best_by::<{ Pool::FEW_SETS }>(exchanges, table)
         } else {
             self.fill_best_by::<{ Pool::SETS }>(exchanges, table)
         }

@@ -6,8 +6,8 @@ use Rattle.clearing.proofs.choosing.write_plan.Goals as goal
 pub choose-requires-clause-clean : goal.choose-requires-clause-clean
 choose-requires-clause-clean c = all_clean 256
 
-pub choose-requires-else-pool-lt9-clause-dead_room : goal.choose-requires-else-pool-lt9-clause-dead_room
-choose-requires-else-pool-lt9-clause-dead_room c = pow_mono (fits_size c.args.pool c.requires.fitting_pool)
+pub choose-requires-else-pool-le-FEW-clause-dead_room : goal.choose-requires-else-pool-le-FEW-clause-dead_room
+choose-requires-else-pool-le-FEW-clause-dead_room c = pow_mono (fits_size c.args.pool c.requires.fitting_pool)
 
-pub choose-requires-else-pool-lt9-clause-clean : goal.choose-requires-else-pool-lt9-clause-clean
-choose-requires-else-pool-lt9-clause-clean c = all_clean 16384
+pub choose-requires-else-pool-le-FEW-clause-clean : goal.choose-requires-else-pool-le-FEW-clause-clean
+choose-requires-else-pool-le-FEW-clause-clean c = all_clean 16384
