@@ -1,5 +1,5 @@
 use mathlib.Core.List.{List, ◌++◌}
-use mathlib.Core.Path.{◌≡◌, sym, ap, ◌∙◌}
+use mathlib.Core.Path.{◌≡◌, refl, sym, ap, ◌∙◌}
 use Prim.Native.Nat.{ℕ, ◌-◌, ◌/◌, ◌≤◌}
 use native.Mathlib.Omega.{arith}
 use lib.Dec.{T}
@@ -13,9 +13,9 @@ use Rattle.pool.specs.declared.value.Pool.{Pool}
 use Rattle.pool.specs.Refusals.{Outcome, accepted}
 use Rattle.pool.specs.Value.{pool_fits}
 use Rattle.report.specs.Text.{served_line, record_lines}
-use Rattle.report.specs.inner.Writing.{pushed}
+use Rattle.report.specs.inner.Writing.{cleared_text}
 use Rattle.report.proofs.LineLaws.{lines_cut}
-use Rattle.report.proofs.Pushing.{whole}
+use Rattle.report.proofs.Pushing.{said}
 use Rattle.kep.specs.Lists.{cut}
 use Rattle.report.proofs.Composing.{fitted, only_limits, PlanTold, told_plan, told_refused, records_few, plan_text_lem}
 use Rattle.report.proofs.reporting.compose_cleared.Goals as goal
@@ -43,7 +43,7 @@ returns-in_err-cleared c =
     let a = c.args in
     let p = err_from_is_err_and c.from_residual.result c.from_residual.ensures.1 in
     let no = told_refused a.pool a.limits (only a.pool a.limits c.requires) c.in_err-cleared.ensures.outcome in
-    rw (p.1, p.2) record { text = tt; refusal = no.1; spot = omega (arith, no.0) }
+    rw (p.1, p.2) record { text = tt; short = tt; same = refl; refusal = no.1; spot = omega (arith, no.0) }
 
 pub slice_bounds-push_plan-end : goal.slice_bounds-push_plan-end
 slice_bounds-push_plan-end c =
@@ -51,18 +51,18 @@ slice_bounds-push_plan-end c =
     let (plan, few) = told c.args.pool c.args.limits c.requires c.in_ok-cleared.ensures.outcome k.ensures.plan k.auto.plan in
     sym (length-take-le _ c.as_chunks.result.0.now (omega (arith, c.as_chunks.ensures.front_len, k.auto.plan, length-replicate {A = ℕ} 224 0)))
 
-pub returns-clause-text : goal.returns-clause-text
-returns-clause-text c =
+pub returns : goal.returns
+returns c =
+    let a = c.args in
     let k = c.clear_value in
     let cleared = c.in_ok-cleared.cleared in
-    let (plan, few) = told c.args.pool c.args.limits c.requires c.in_ok-cleared.ensures.outcome k.ensures.plan k.auto.plan in
+    let (plan, few) = told a.pool a.limits c.requires c.in_ok-cleared.ensures.outcome k.ensures.plan k.auto.plan in
     let records = cleared.records in
     let chunks = c.as_chunks.result.0.now in
-    let line = served_line cleared.served (c.args.pool.size - c.args.pool.altruists) in
+    let line = served_line cleared.served (a.pool.size - a.pool.altruists) in
     let enough = length-replicate {A = ℕ} 224 0 in
     let told_lines : take records chunks ≡ cut 16 records k.new.plan =
     ap (take records) c.as_chunks.ensures.front ∙ lines_cut records (length k.new.plan / 16) k.new.plan (omega (arith, k.auto.plan, enough)) in
     let many = length-take-le records chunks (omega (arith, c.as_chunks.ensures.front_len, k.auto.plan, enough)) in
-    whole (omega (arith, c.push_plan.ensures.short, many)) (c.push_plan.ensures.text ∙ ap (λ t. pushed t (line ++ record_lines (take records chunks))) c.new-text.ensures)
-    ∙ ap (λ rs. line ++ record_lines rs) told_lines
-    ∙ plan_text_lem c.args.pool c.args.limits c.requires plan
+    let text : line ++ record_lines (take records chunks) ≡ cleared_text a.pool a.limits = ap (λ rs. line ++ record_lines rs) told_lines ∙ plan_text_lem a.pool a.limits c.requires plan in
+    record { text = said a.text.now text c.push_plan.ensures.text; short = omega (arith, ap length text, c.push_plan.ensures.short, many); same = tt; refusal = tt; spot = tt }

@@ -1,12 +1,12 @@
 use mathlib.Core.List.{List}
-use mathlib.Core.Path.{◌≡◌, sym, ap, subst, ◌∙◌}
-use Prim.Native.Nat.{ℕ}
+use mathlib.Core.Path.{◌≡◌, refl, sym, ap, subst, ◌∙◌}
+use Prim.Native.Nat.{ℕ, ◌≤◌}
 use lib.ListN.{length}
 use Rattle.pool.specs.declared.value.Pool.{Pool}
-use Rattle.std.specs.Prelude.{IfOk, IfErr}
+use Rattle.std.specs.Prelude.{IfErr, OnOk}
 use Rattle.pool.specs.Refusals.{number_of}
 use Rattle.report.specs.Text.{refused_line, limits_in, whole_text}
-use Rattle.report.specs.inner.Writing.{cleared_text}
+use Rattle.report.specs.inner.Writing.{cleared_text, pushed}
 use native.Mathlib.Omega.{arith}
 use Rattle.reading.specs.Records.{read_pool}
 use Rattle.pool.specs.Refusals.{accepted}
@@ -25,7 +25,7 @@ pub returns-in_err-pool : goal.returns-in_err-pool
 returns-in_err-pool c =
     let a = c.args in
     let p = err_from_is_err_and c.from_residual.result c.from_residual.ensures.1 in
-    rw (p.1, p.2) record { text = tt; refusal = pool_refused a.pool.now a.limits.now c.in_err-pool.ensures; spot = omega (arith, read_spot a.pool.now c.in_err-pool.ensures) }
+    rw (p.1, p.2) record { text = tt; short = tt; same = refl; refusal = pool_refused a.pool.now a.limits.now c.in_err-pool.ensures; spot = omega (arith, read_spot a.pool.now c.in_err-pool.ensures) }
 
 pub compose_cleared-requires : goal.compose_cleared-requires
 compose_cleared-requires c = read_fits c.args.pool.now (sym c.in_ok-pool.ensures)
@@ -39,7 +39,13 @@ pub returns-clause-text : goal.returns-clause-text
 returns-clause-text c =
     let a = c.args in
     let both = c.in-Some.ensures.cases in
-    subst (λ t. IfOk c.compose_cleared.result (λ text. text ≡ t)) (two a.pool.now c.in_ok-pool.ensures both.long both.same) c.compose_cleared.ensures.text
+    subst (λ t. OnOk c.compose_cleared.result (c.compose_cleared.new.text ≡ pushed c.args.text.now t)) (two a.pool.now c.in_ok-pool.ensures both.long both.same) c.compose_cleared.ensures.text
+
+pub returns-clause-short : goal.returns-clause-short
+returns-clause-short c =
+    let a = c.args in
+    let both = c.in-Some.ensures.cases in
+    subst (λ t. OnOk c.compose_cleared.result (length t ≤ 1024)) (two a.pool.now c.in_ok-pool.ensures both.long both.same) c.compose_cleared.ensures.short
 
 pub returns-clause-refusal : goal.returns-clause-refusal
 returns-clause-refusal c =
