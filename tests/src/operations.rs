@@ -9,7 +9,10 @@ use crate::pools::PoolValue;
 use crate::program::{of_project, Folder};
 use crate::refusal::Refusal;
 use std::fs::{self, File};
+use std::os::fd::OwnedFd;
+use std::os::unix::net::UnixDatagram;
 use std::process::Command;
+use std::time::Duration;
 
 /// The bytes behind a command for record k, of which the first are the plan.
 pub const MOST_PLAN: usize = 256;
@@ -96,16 +99,37 @@ impl Commands {
         assert_eq!(numbers.next(), None, "more than was asked for");
     }
 
-    /// From a file, so that neither side waits for the other.
     fn printed(&self) -> String {
         let folder = Folder::new();
-        let commands = folder.file("commands");
-        fs::write(&commands, &self.bytes).unwrap();
-        let mut program = Command::new(of_project("target/bin/operations"));
-        let output = program.stdin(File::open(commands).unwrap()).output();
+        let output = self.program(&folder).output();
         let output = output.expect("the program can be run");
         assert!(output.status.success(), "{}", output.status);
         String::from_utf8(output.stdout).unwrap()
+    }
+
+    /// Runs all commands and expects each number to be written by itself: a datagram is one write.
+    pub fn run_write_by_write(&self) {
+        let folder = Folder::new();
+        let (here, there) = UnixDatagram::pair().unwrap();
+        here.set_read_timeout(Some(Duration::from_secs(10)))
+            .unwrap();
+        let mut program = self.program(&folder);
+        let mut running = program.stdout(OwnedFd::from(there)).spawn().unwrap();
+        let mut bytes = [0; 64];
+        for number in self.expected.iter().flat_map(|(_, numbers)| numbers) {
+            let length = here.recv(&mut bytes).expect("a number more");
+            assert_eq!(bytes[..length], *format!("{number}\n").as_bytes());
+        }
+        assert!(running.wait().unwrap().success());
+    }
+
+    /// Reads the commands from a file, so that neither side waits for the other.
+    fn program(&self, folder: &Folder) -> Command {
+        let commands = folder.file("commands");
+        fs::write(&commands, &self.bytes).unwrap();
+        let mut program = Command::new(of_project("target/bin/operations"));
+        program.stdin(File::open(commands).unwrap());
+        program
     }
 }
 

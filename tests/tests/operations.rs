@@ -40,6 +40,21 @@ fn every_place() {
     commands.run();
 }
 
+/// Each number is written by itself: where a write fails, those before it are out.
+#[test]
+fn number_by_number() {
+    let mut commands = Commands::default();
+    commands.set(0b1101, 3);
+    commands.limits(Limits::new(2, 3));
+    commands.limits(Limits::new(15, 0));
+    commands.record(&[7; 32], 1);
+    let a = read(&pool_a()).unwrap().value();
+    for limits in [Limits::new(2, 2), Limits::new(0, 15)] {
+        commands.clear(&a, limits, &clear_value(&a, limits, cleared));
+    }
+    commands.run_write_by_write();
+}
+
 #[test]
 fn every_pair_of_limits() {
     let mut commands = Commands::default();

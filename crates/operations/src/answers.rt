@@ -11,19 +11,22 @@ use std::io::Read;
 const PLACES: usize = 14;
 
 // The tests ask for a set's number; `Debug` would print the type's name with it.
+// Here and below each number is written by itself: where a write fails, those before it are out.
 pub(crate) fn try_set(rt: &impl Print, set: VertexSet, v: u8) -> io::Result<()> {
-    let (with, without) = (set.with(v).0, set.without(v).0);
-    let has = u8::from(set.has(v));
-    println!(rt;
-        "{}\n{}\n{with}\n{without}\n{has}",
-        set.lowest(),
-        set.size()
-    )
+    println!(rt; "{}", set.lowest())?;
+    println!(rt; "{}", set.size())?;
+    println!(rt; "{}", set.with(v).0)?;
+    println!(rt; "{}", set.without(v).0)?;
+    println!(rt; "{}", u8::from(set.has(v)))
 }
 
 pub(crate) fn try_limits(rt: &impl Print, cycle: u8, chain: u8) -> io::Result<()> {
     match Limits::new(cycle, chain) {
-        Ok(limits) => println!(rt; "0\n{}\n{}", limits.cycle, limits.chain),
+        Ok(limits) => {
+            println!(rt; "0")?;
+            println!(rt; "{}", limits.cycle)?;
+            println!(rt; "{}", limits.chain)
+        }
         Err(refusal) => say_refused(rt, refusal),
     }
 }
@@ -52,7 +55,9 @@ pub(crate) fn clear_next(rt: &impl Print, input: &mut impl Read, limits: Limits)
     let pool = next_value(input)?;
     match clear_value(pool, limits, &mut exchanges, &mut best, &mut plan) {
         Ok(cleared) => {
-            println!(rt; "0\n{}\n{}", cleared.served, cleared.records)?;
+            println!(rt; "0")?;
+            println!(rt; "{}", cleared.served)?;
+            println!(rt; "{}", cleared.records)?;
             say_all(rt, &plan)
         }
         Err(refusal) => say_refused(rt, refusal),
@@ -82,7 +87,8 @@ fn next_numbers(input: &mut impl Read) -> io::Result<[u16; PLACES]> {
 }
 
 fn say_refused(rt: &impl Print, refusal: Refusal) -> io::Result<()> {
-    println!(rt; "{}\n{}", refusal.cause.number(), refusal.at)
+    println!(rt; "{}", refusal.cause.number())?;
+    println!(rt; "{}", refusal.at)
 }
 
 fn say_all(rt: &impl Print, bytes: &[u8]) -> io::Result<()> {
