@@ -10,11 +10,12 @@ use native.Mathlib.Omega.{arith}
 use lib.Bits.{bit_and, and_le_l, and_step}
 use lib.Dec.{T, eqb, eqb→eq}
 use lib.ListN.{length}
-use Rattle.kep.specs.Lists.{keep}
+use Rattle.kep.specs.Lists.{keep, nil, cons, Pairwise}
 use Rattle.kep.specs.Sets.{Part}
 use Rattle.kep.specs.Trying.{down_from, falling_parts}
 use Rattle.kep.proofs.Tests.{is_true, is_false, eq→eqb}
-use Rattle.kep.proofs.Each.{keep_yes, keep_no, keep_in, keep_out, keep_length}
+use Rattle.kep.proofs.Each.{each_of, keep_yes, keep_no, keep_part, keep_in, keep_out, keep_length}
+use Rattle.kep.proofs.Ordered.{pairwise_part}
 use Rattle.kep.proofs.SetLaws.{odd, even, parity, Parity}
 use Rattle.kep.proofs.Parts.{and_part, part_and, part_of_and, part_half, part_low, part_le}
 
@@ -84,10 +85,10 @@ from_step (suc k) {s} h p =
 
 -- ---- which they are, and how many
 
-down_out : (k t : ℕ) → Memᴰ t (down_from k) → 0 < t
+down_out : (k t : ℕ) → Memᴰ t (down_from k) → (0 < t) × (t ≤ k)
 unfolding down_from
 down_out zero t m = absurd (Memᴰ.not-nil m)
-down_out (suc k) t m = ⊎_elim (λ e. omega arith) (down_out k t) (Memᴰ.cases_cons m)
+down_out (suc k) t m = ⊎_elim (λ e. (omega arith, omega arith)) (λ n. let (some, most) = down_out k t n in (some, omega arith)) (Memᴰ.cases_cons m)
 
 down_in : (k t : ℕ) → 0 < t → t ≤ k → Memᴰ t (down_from k)
 unfolding down_from
@@ -102,9 +103,19 @@ down_length (suc k) = ap suc (down_length k)
 pub in_falling : (s t : ℕ) → Memᴰ t (falling_parts s) ↔ ((0 < t) × Part t s)
 unfolding falling_parts
 in_falling s t = (
-  (λ m. let (among, passes) = keep_out (part s) (down_from s) m in (down_out s t among, part_of_and (eqb→eq (bit_and t s) t passes))),
+  (λ m. let (among, passes) = keep_out (part s) (down_from s) m in ((down_out s t among).0, part_of_and (eqb→eq (bit_and t s) t passes))),
   (λ r. keep_in (part s) (down_in s t r.0 (part_le r.1)) (eq→eqb (bit_and t s) t (part_and r.1))),
 )
+
+down_falls : (k : ℕ) → Pairwise (λ x y. y < x) (down_from k)
+unfolding down_from
+down_falls zero = nil
+down_falls (suc k) = cons (each_of (down_from k) (λ t m. omega (arith, (down_out k t m).1))) (down_falls k)
+
+-- each number of the list is above all that come after it: so no part comes twice
+pub parts_falling : (s : ℕ) → Pairwise (λ x y. y < x) (falling_parts s)
+unfolding falling_parts
+parts_falling s = pairwise_part (keep_part (part s) (down_from s)) (down_falls s)
 
 pub falling_length : (s : ℕ) → length (falling_parts s) ≤ s
 unfolding falling_parts

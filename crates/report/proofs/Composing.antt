@@ -5,7 +5,7 @@ use mathlib.Core.Path.{◌≡◌, refl, sym, ap, ap₂, ◌∙◌}
 use mathlib.Core.Logic.{◌≢◌, ◌⊎◌, inl, inr, ⊎_elim}
 use Prim.Native.Nat.{ℕ, zero, suc, ◌-◌, ◌*◌, ◌/◌, ◌^◌, ◌≤◌, ◌<◌}
 use native.Mathlib.Omega.{arith}
-use lib.Dec.{T, leb, le→leb}
+use lib.Dec.{T, leb, le→leb, leb→le}
 use lib.ListN.{length, drop, length-append, length-drop}
 use lib.Pow.{pow_mono}
 use lib.Seq.{take-append-le, drop-append-le}
@@ -153,3 +153,11 @@ module _ (text out : List ℕ) (short : length text ≤ 1024) where
     ap (λ w. Some (length w)) e ∙ rw (le-leb (length text) (length out) h, told_of),
     (f ∙ ap (λ w. w ++ drop (length w) out) e ∙ rw (le-leb (length text) (length out) h, left_of), short),
   )
+
+-- what is told to stand there has room there
+pub told_inside : (text : List ℕ) (room : ℕ) {end : ℕ} → Some end ≡ told_of text room → end ≤ room
+told_inside text room {end} = go (leb (length text) room) (λ t. leb→le (length text) room t)
+  where
+    go : (b : Bool) → (T b → length text ≤ room) → Some end ≡ elim b as (λ _. Option ℕ) [ true ↦ Some (length text) | false ↦ None ] → end ≤ room
+    go true h e = let same : end ≡ length text = cc in omega (arith, h tt)
+    go false h e = let never : ◌≡◌ {A = ℕ} 0 1 = cc in absurd (omega arith)
