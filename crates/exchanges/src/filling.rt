@@ -36,7 +36,7 @@ impl Filling {
     }
 
     // The number of sets of vertices, each with its entry.
-    // As `VertexWorths::entries` in tables: a public method of `Pool` may ask for nothing, and that there are few places is known here.
+    // As `VertexWorths::sets` in tables: a public method of `Pool` may ask for nothing, and that there are few places is known here.
     pub(crate) fn sets(&self) -> usize
         ensures { result ≡ 2 ^ self.now.pool.size }
     {
