@@ -19,7 +19,7 @@ fn believed(source: &str) -> Run {
     for path in ["kep/specs/Graph", "one/specs/One", "one/specs/computed/Two"] {
         fs::write(project.file(&format!("crates/{path}.antt")), "").unwrap();
     }
-    let lines = format!("ghost use Rattle.one.specs.inner.Three.{{Inner}};\n\n{source}");
+    let lines = format!("ghost use Rattle.one.specs.inner.Three.{{\n    Inner,\n    Other,\n}};\nghost use Rattle.one.specs.inner.Whole;\n\n{source}");
     fs::write(project.file("crates/one/src/lib.rt"), lines).unwrap();
     run(Command::new(project.file(".ci/believed")).current_dir(project.path()))
 }
@@ -31,12 +31,15 @@ fn inner_names() {
         "pub struct S {\n    n: u8,\n    ghost small: { Inner n },\n}\n",
         "pub struct S;\n\nimpl From<u8> for S {\n    ghost from_gives = { λ n s. Inner n };\n}\n",
         "impl From<u8> for u16 {\n    ghost from_gives =\n        { λ n m. Inner n };\n}\n",
-        "pub trait Law {\n    ghost law = { λ n. Inner n };\n}\n",
+        "pub trait Law {\n    ghost law = { λ n. Other n };\n}\n",
+        "pub trait Law {\n    fn f(&self) -> u8\n        ensures { Inner result };\n}\n",
+        "pub fn f(n: u8) -> u8\n    ensures { Whole.anything n result }\n{\n    n\n}\n",
+        "mod two {\n    struct S;\n}\n\npub struct S;\n\nimpl S {\n    ghost law = { λ n. Inner n };\n}\n",
     ];
     for source in told {
         let run = believed(source);
         assert_eq!(run.code, Some(1), "{source}{run:?}");
-        assert!(run.printed.contains("names the inner Inner"), "{run:?}");
+        assert!(run.printed.contains(" names the inner "), "{run:?}");
     }
     let untold = [
         "fn f(n: u8) -> u8\n    ensures { Inner n result }\n{\n    n\n}\n",

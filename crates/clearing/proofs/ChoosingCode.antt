@@ -183,6 +183,15 @@ module _ (g : Graph) (lc lp : ℕ) (fit : FitRecords g lc lp) where
 
     -- ---- by what a step tells and keeps: what was clean beside the lowest vertex is clean on what is free next
 
+    -- what is taken lies within the free vertices
+    pub taken_inside : {f : Field} {told : Option Taken} {taken : Taken} → Means g lc lp w f → 0 < f.free → Stepped g f told → told ≡ Some taken → Part taken.set.0 f.free
+    unfolding set_of
+    taken_inside {f} {told} {taken} means some step one = go step
+      where
+        go : Stepped g f told → Part taken.set.0 f.free
+        go (nothing t cannot) = absurd (some_none one t)
+        go (first c way t) = rw (some_same (sym one ∙ t)) (leftmost_first_good g lc lp w means (lowest_is f.free some) c way).good.inside
+
     module _ {f : Field} {plan₀ plan : List ℕ} {records : ℕ} {told : Option Taken}
         (means : Means g lc lp w f)
         (m : Made g lc lp w plan₀ plan f.free records)
@@ -207,15 +216,6 @@ module _ (g : Graph) (lc lp : ℕ) (fit : FitRecords g lc lp) where
             go (nothing t cannot) =
                 rw without (omega (arith, bit_le f.free (lowest f.free) low.is_in, pow_pos (lowest f.free)), (made_skip m some (none_good g lc lp w means low cannot), clean))
             go (first c way t) = absurd (some_none t z)
-
-        -- what is taken lies within the free vertices
-        pub taken_inside : {taken : Taken} → told ≡ Some taken → Part taken.set.0 f.free
-        unfolding set_of
-        taken_inside {taken} one = go step
-          where
-            go : Stepped g f told → Part taken.set.0 f.free
-            go (nothing t cannot) = absurd (some_none one t)
-            go (first c way t) = rw (some_same (sym one ∙ t)) (leftmost_first_good g lc lp w means low c way).good.inside
 
         pub step_one : {taken : Taken} {next : ℕ} {dead : List ℕ} → told ≡ Some taken → f.free < 2 ^ 16 → next ≡ set_where 16 (λ u. has f.free u && not (has taken.set.0 u))
             → Clean (f.free - 2 ^ lowest f.free) dead → (next < f.free) × (Made g lc lp w plan₀ (with_next plan records taken.bytes) next (records + 1) × Clean next dead)
