@@ -42,6 +42,8 @@ fn inner_names() {
         assert!(run.printed.contains(" names the inner "), "{run:?}");
     }
     let untold = [
+        "pub struct S(pub u16);\n\nstruct T {\n    n: u8,\n    ghost small: { Inner n },\n}\n",
+        "pub fn f() {}\n\nfn g(n: u8)\n    requires { Inner n }\n{\n}\n",
         "fn f(n: u8) -> u8\n    ensures { Inner n result }\n{\n    n\n}\n",
         "pub(crate) struct S {\n    n: u8,\n    ghost small: { Inner n },\n}\n",
         "struct S;\n\nimpl From<u8> for S {\n    ghost from_gives = { λ n s. Inner n };\n}\n",
